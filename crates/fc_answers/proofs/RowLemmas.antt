@@ -11,7 +11,7 @@ use Rattle.std.proofs.lemmas.List.Kept.{AllPairs-filter}
 use Rattle.std.proofs.lemmas.List.Sums.{length-filter, count_by-le-length}
 use Rattle.fc_moves.specs.inner.GameLaws.{Contains-filter, Contains-from_filter}
 use Rattle.fc_position.specs.Board.{Board}
-use Rattle.fc_canonical.specs.Spelled.{spelled}
+use Rattle.fc_canonical.specs.Spelled.{board_of_bytes}
 use Rattle.fc_answers.specs.declared.table_rows.Row.{Row}
 use Rattle.fc_answers.specs.Table.{HaveKeysOnce, key_by, pairs_by}
 use Rattle.fc_answers.specs.inner.Table.{at_no_cost, inside}
@@ -26,7 +26,7 @@ pair_there start rows i row here lt =
 
 -- of rows that have no key twice, those inside n have none twice
 pub inside_once : (low : Board → ℕ) (n : ℕ) (table : List (List ℕ × ℕ)) → HaveKeysOnce table → HaveKeysOnce (inside low n table)
-inside_once low n table once = AllPairs-filter (λ x y. x.0 ≢ y.0) (λ e. nat_lt (e.1 + low (spelled e.0)) n) table once
+inside_once low n table once = AllPairs-filter (λ x y. x.0 ≢ y.0) (λ e. nat_lt (e.1 + low (board_of_bytes e.0)) n) table once
 
 -- nor do all, at no cost
 pub no_cost_once : (table : List (List ℕ × ℕ)) → HaveKeysOnce table → HaveKeysOnce (at_no_cost table)
@@ -41,7 +41,7 @@ no_cost_once table once i j d lt within same =
 pub inside_few : (start : Board) (low : Board → ℕ) (n : ℕ) (table : List (List ℕ × ℕ)) (rows : List Row)
     → pairs_by start rows ≡ inside low n table → length rows ≤ length table
 inside_few start low n table rows same =
-    let test : (List ℕ × ℕ) → Bool = λ e. nat_lt (e.1 + low (spelled e.0)) n in
+    let test : (List ℕ × ℕ) → Bool = λ e. nat_lt (e.1 + low (board_of_bytes e.0)) n in
     let pair : Row → List ℕ × ℕ = λ r. (key_by start r.code, r.cost) in
     omega (arith, sym (length-map rows pair), ap length same, length-filter test table, count_by-le-length test table)
 
@@ -70,17 +70,17 @@ freely_listed (f ∷ table) x cost (suc k, lt, same) =
 
 -- what is inside n is listed, and its cost and bound are below n
 pub inside_listed : (low : Board → ℕ) (n : ℕ) (table : List (List ℕ × ℕ)) (e : List ℕ × ℕ) → Contains (inside low n table) e
-    → Contains table e × (e.1 + low (spelled e.0) < n)
+    → Contains table e × (e.1 + low (board_of_bytes e.0) < n)
 inside_listed low n table e there =
-    let kept = Contains-from_filter (λ f. nat_lt (f.1 + low (spelled f.0)) n) table e there in
-    let test : nat_lt (e.1 + low (spelled e.0)) n ≡ true = kept.1 in
+    let kept = Contains-from_filter (λ f. nat_lt (f.1 + low (board_of_bytes f.0)) n) table e there in
+    let test : nat_lt (e.1 + low (board_of_bytes e.0)) n ≡ true = kept.1 in
     (kept.0, grind (arith, nat_tests))
 
-pub listed_inside : (low : Board → ℕ) (n : ℕ) (table : List (List ℕ × ℕ)) (e : List ℕ × ℕ) → Contains table e → e.1 + low (spelled e.0) < n
+pub listed_inside : (low : Board → ℕ) (n : ℕ) (table : List (List ℕ × ℕ)) (e : List ℕ × ℕ) → Contains table e → e.1 + low (board_of_bytes e.0) < n
     → Contains (inside low n table) e
 listed_inside low n table e there below =
-    let test : nat_lt (e.1 + low (spelled e.0)) n ≡ true = grind (arith, nat_tests) in
-    Contains-filter (λ f. nat_lt (f.1 + low (spelled f.0)) n) table e there test
+    let test : nat_lt (e.1 + low (board_of_bytes e.0)) n ≡ true = grind (arith, nat_tests) in
+    Contains-filter (λ f. nat_lt (f.1 + low (board_of_bytes f.0)) n) table e there test
 
 -- rows that were changed as a slice, as many as there were
 pub written_back : (n : ℕ) (new was : List Row) → length new ≡ length was → n ≡ length was

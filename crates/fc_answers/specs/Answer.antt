@@ -5,7 +5,7 @@ use Rattle.fc_moves.specs.GameRules.{GameRules}
 use Rattle.fc_bound.specs.declared.kinds.BoundKind.{BoundKind}
 use Rattle.fc_bound.specs.Kinds.{guide_of, low_of}
 use Rattle.fc_tables.specs.Table.{IsClosed, IsClosedBelow, as_boards}
-use Rattle.fc_canonical.specs.Spelled.{spelled}
+use Rattle.fc_canonical.specs.Spelled.{board_of_bytes}
 use Rattle.fc_answers.specs.declared.answers.Answer.{Answer}
 use Rattle.fc_answers.specs.declared.answers.Verdict.{Verdict}
 use Rattle.fc_answers.specs.declared.answers.Verdict.TheVariants.{Shortest, Won, CannotWin, GaveUp}
@@ -16,7 +16,7 @@ use Rattle.fc_answers.specs.Table.{Listing, IsTable}
 pub record IsBackedBelow (g : GameRules) (b : Board) (n : ℕ) (table : Listing) : Type 0 where
   pub listed : IsTable g table
   pub closed : IsClosedBelow (low_of table.bound) g table.rule b n (as_boards table.rows)
-  pub below : (e : List ℕ × ℕ) → Contains table.rows e → e.1 + guide_of table.bound (spelled e.0) < n
+  pub below : (e : List ℕ × ℕ) → Contains table.rows e → e.1 + guide_of table.bound (board_of_bytes e.0) < n
 
 -- the table shows that no list wins from the board: it is one of the game, closed under its own rule, and lists each class
 -- at no cost

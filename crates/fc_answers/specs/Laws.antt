@@ -3,7 +3,7 @@ use Rattle.std.specs.Prelude.{◌≡◌, ◌↔◌, ℕ, List, None, AllPairs}
 use Rattle.fc_position.specs.Board.{Board}
 use Rattle.fc_moves.specs.GameRules.{GameRules}
 use Rattle.fc_moves.specs.Class.{SameClass}
-use Rattle.fc_canonical.specs.Spelled.{spelled}
+use Rattle.fc_canonical.specs.Spelled.{board_of_bytes}
 use Rattle.fc_answers.specs.declared.answers.Answer.{Answer}
 use Rattle.fc_answers.specs.Answer.{HasGivenUp, IsBacked}
 use Rattle.fc_answers.specs.Table.{AreClasses, HaveKeysOnce, IsRising}
@@ -13,7 +13,7 @@ use Rattle.fc_answers.specs.declared.answers.TheConstants.{MOST_MOVES}
 -- no two of the rows' keys spell boards of one class, where the rows rise and are of classes of the game
 abbrev pub RisingRowsListClassesOnce : Type 0
 RisingRowsListClassesOnce = (g : GameRules) (rows : List (List ℕ × ℕ)) → AreClasses g rows → IsRising rows
-    → AllPairs (λ x y. SameClass (spelled x.0) (spelled y.0) → ⊥) rows
+    → AllPairs (λ x y. SameClass (board_of_bytes x.0) (board_of_bytes y.0) → ⊥) rows
 
 -- rising rows have no key twice
 abbrev pub RisingRowsHaveKeysOnce : Type 0

@@ -18,10 +18,10 @@ use Rattle.fc_best_first.specs.Store.{Store}
 use Rattle.fc_best_first.specs.Turn.{work_left as left_of}
 use Rattle.fc_search.specs.Problem.{Problem, task_of_problem}
 use Rattle.fc_search.specs.Search.{State}
-use Rattle.fc_batch.specs.Batch.{Batch, Stays, TurnsAt, TurnFor, TurnsFor, HasTurn, NumbersWereGiven, found, search_at, running, while_running, work_of, work_left}
+use Rattle.fc_batch.specs.Batch.{Batch, Stays, TurnsAt, TurnFor, TurnsFor, HasTurn, NumbersWereGiven, search_numbered, search_at, count_if_running, while_running, work_of, work_left}
 
 -- the search with a number is what a look-up finds
-pub found_looked : (es : List (ℕ × State)) (i : ℕ) → found es i ≡ lookup (nat_eq i) es
+pub found_looked : (es : List (ℕ × State)) (i : ℕ) → search_numbered es i ≡ lookup (nat_eq i) es
 found_looked [] i = refl
 found_looked ((n, s) ∷ es) i =
     let same : nat_eq n i ≡ nat_eq i n = nat_eq_equiv.symm n i in
@@ -29,14 +29,14 @@ found_looked ((n, s) ∷ es) i =
 
 -- where each look-up but that of one number finds the same, the other searches stay
 pub others_looked : (i : ℕ) (es fs : List (ℕ × State))
-    → ((j : ℕ) → nat_eq i j ≡ false → lookup (nat_eq j) fs ≡ lookup (nat_eq j) es) → (j : ℕ) → j ≢ i → found fs j ≡ found es j
+    → ((j : ℕ) → nat_eq i j ≡ false → lookup (nat_eq j) fs ≡ lookup (nat_eq j) es) → (j : ℕ) → j ≢ i → search_numbered fs j ≡ search_numbered es j
 others_looked i es fs same j other =
     found_looked fs j ∙ same j (ne_eqb i j (λ e. other (sym e))) ∙ sym (found_looked es j)
 
 -- where only the search with one number comes or goes, the numbers of the others were given
 others_given : (i added : ℕ) (es fs : List (ℕ × State))
     → ((j : ℕ) → nat_eq i j ≡ false → lookup (nat_eq j) fs ≡ lookup (nat_eq j) es)
-    → NumbersWereGiven (record { searches = es; added = added }) → (j : ℕ) (s : State) → j ≢ i → found fs j ≡ Some s → j < added
+    → NumbersWereGiven (record { searches = es; added = added }) → (j : ℕ) (s : State) → j ≢ i → search_numbered fs j ≡ Some s → j < added
 others_given i added es fs same given j s other at = given j s (sym (others_looked i es fs same j other) ∙ at)
 
 -- the next number is given with its search
@@ -57,7 +57,7 @@ pub given_taken : (i added : ℕ) (es fs : List (ℕ × State))
 given_taken i added es fs same gone given j s at =
     ⊎_elim
     (λ (own : j ≡ i).
-    let here : found fs i ≡ Some s = subst (λ k. found fs k ≡ Some s) own at in
+    let here : search_numbered fs i ≡ Some s = subst (λ k. search_numbered fs k ≡ Some s) own at in
     absurd (none-some s (sym gone ∙ sym (found_looked fs i) ∙ here)))
     (λ other. others_given i added es fs same given j s other at)
     (cases_eq j i)
@@ -87,7 +87,7 @@ turn_of i o p old mid new reply same stays turn =
 
 -- one more turn after those of a list
 pub one_more : (list : List ℕ) (i : ℕ) (old mid new : Batch) (count : ℕ) (reply : Result Step SearchFault)
-    → TurnsFor list old mid count → TurnFor i mid new reply → TurnsFor (list ++ i ∷ []) old new (count + running reply)
+    → TurnsFor list old mid count → TurnFor i mid new reply → TurnsFor (list ++ i ∷ []) old new (count + count_if_running reply)
 one_more [] i old mid new count reply (stays, none) turn = (
   new,
   reply,
@@ -98,19 +98,19 @@ one_more [] i old mid new count reply (stays, none) turn = (
 )
 one_more (j ∷ list) i old mid new count reply (next, told, others, first, rest, sum) turn =
     let on = one_more list i next mid new others reply rest turn in
-    (next, told, others + running reply, first, on, omega (arith, sum))
+    (next, told, others + count_if_running reply, first, on, omega (arith, sum))
 
-few : (reply : Result Step SearchFault) → running reply ≤ 1
+few : (reply : Result Step SearchFault) → count_if_running reply ≤ 1
 few (Ok Running) = omega arith
 few (Ok Done) = omega arith
 few (Err fault) = omega arith
 
 by_status : (task : Task (List ℕ)) (old new : Store (List ℕ)) (before after : Status (List ℕ))
     (reply : Result Step SearchFault) → Turns task before old new after reply → (reply ≡ Ok Running → left_of task.strategy.budget new < left_of task.strategy.budget old)
-    → while_running after (left_of task.strategy.budget new) + running reply ≤ while_running before (left_of task.strategy.budget old)
+    → while_running after (left_of task.strategy.budget new) + count_if_running reply ≤ while_running before (left_of task.strategy.budget old)
 by_status task old new status.Running status.Running reply turn falls =
     ⊎_elim
-    (λ (takes, told). let less = falls told in let one : running reply ≡ 1 = ap running told in omega (arith, less, one))
+    (λ (takes, told). let less = falls told in let one : count_if_running reply ≡ 1 = ap count_if_running told in omega (arith, less, one))
     (λ (stopped, told). absurd cc)
     turn
 by_status task old new status.Running (status.Won n) reply turn falls = omega (arith, few reply)
@@ -118,26 +118,26 @@ by_status task old new status.Running status.CannotWin reply turn falls = omega 
 by_status task old new status.Running (status.GaveUp y n) reply turn falls = omega (arith, few reply)
 by_status task old new status.Running status.Stopped reply turn falls = omega (arith, few reply)
 by_status task old new (status.Won n) after reply (same, stays, told) falls =
-    let none : running reply ≡ 0 = ap running told in
+    let none : count_if_running reply ≡ 0 = ap count_if_running told in
     let nothing : while_running after (left_of task.strategy.budget new) ≡ 0 = ap (λ s. while_running s (left_of task.strategy.budget new)) stays in
     omega (arith, none, nothing)
 by_status task old new status.CannotWin after reply (same, stays, told) falls =
-    let none : running reply ≡ 0 = ap running told in
+    let none : count_if_running reply ≡ 0 = ap count_if_running told in
     let nothing : while_running after (left_of task.strategy.budget new) ≡ 0 = ap (λ s. while_running s (left_of task.strategy.budget new)) stays in
     omega (arith, none, nothing)
 by_status task old new (status.GaveUp y n) after reply (same, stays, told) falls =
-    let none : running reply ≡ 0 = ap running told in
+    let none : count_if_running reply ≡ 0 = ap count_if_running told in
     let nothing : while_running after (left_of task.strategy.budget new) ≡ 0 = ap (λ s. while_running s (left_of task.strategy.budget new)) stays in
     omega (arith, none, nothing)
 by_status task old new status.Stopped after reply (same, stays, told) falls =
-    let none : running reply ≡ 0 = ap running told in
+    let none : count_if_running reply ≡ 0 = ap count_if_running told in
     let nothing : while_running after (left_of task.strategy.budget new) ≡ 0 = ap (λ s. while_running s (left_of task.strategy.budget new)) stays in
     omega (arith, none, nothing)
 
 -- a turn leaves its search less to do, where it runs on, and never more
 turn_falls : (before after : State) (reply : Result Step SearchFault) → HasTurn before after reply
     → (reply ≡ Ok Running → left_of before.problem.method.strategy.budget after.store < left_of before.problem.method.strategy.budget before.store)
-    → work_of after + running reply ≤ work_of before
+    → work_of after + count_if_running reply ≤ work_of before
 turn_falls before after reply turn falls =
     let less = by_status (task_of_problem before.problem) before.store after.store before.status after.status reply
     turn.turned falls in
@@ -175,7 +175,7 @@ module _ (i : ℕ) (es fs : List (ℕ × State)) (before after : State) (there :
   -- what is left to do falls where the search runs on, and never rises
   pub work_falls : (added : ℕ) (reply : Result Step SearchFault) → fs ≡ set_value (nat_eq i) es after → HasTurn before after reply
       → (reply ≡ Ok Running → left_of before.problem.method.strategy.budget after.store < left_of before.problem.method.strategy.budget before.store)
-      → work_left (record { searches = fs; added = added }) + running reply ≤ work_left (record { searches = es; added = added })
+      → work_left (record { searches = fs; added = added }) + count_if_running reply ≤ work_left (record { searches = es; added = added })
   work_falls added reply written turn falls =
       let less = turn_falls before after reply turn falls in
       let sum = sum_by-set_value work_of (nat_eq i) es before after there in
@@ -189,7 +189,7 @@ none_turned i added es fs none same =
     let old : Batch = record { searches = es; added = added } in
     let new : Batch = record { searches = fs; added = added } in
     let reply : Result Step SearchFault = Err NoSuch in
-    let stays : Stays old new = record { searches = λ j. ap (λ l. found l j) same; added = refl } in
+    let stays : Stays old new = record { searches = λ j. ap (λ l. search_numbered l j) same; added = refl } in
     let told : (reply ≡ Err NoSuch) × Stays old new = (refl, stays) in
     subst (λ o. MatchOption o ((reply ≡ Err NoSuch) × Stays old new) (λ b. TurnsAt i old new b reply))
     (sym (found_looked es i ∙ none)) told

@@ -12,18 +12,18 @@ use Rattle.fc_best_first.specs.Search.{Turns, reply_of}
 use Rattle.fc_best_first.specs.Store.{Store}
 use Rattle.fc_search.specs.Problem.{task_of_problem}
 use Rattle.fc_search.specs.Search.{State}
-use Rattle.fc_batch.specs.Batch.{Batch, Stays, TurnsAt, TurnsFor, HasTurns, search_at, running}
+use Rattle.fc_batch.specs.Batch.{Batch, Stays, TurnsAt, TurnsFor, HasTurns, search_at, count_if_running}
 use Rattle.fc_batch.specs.Laws.{QuietTurnsEnd}
 use Rattle.fc_batch.proofs.LawLemmas.{numbers_stay, turn_alone}
 
 module _ (task : Task (List ℕ)) (old new : Store (List ℕ)) where
   -- a turn with another reply leaves its search ended
   ended : (before after : Status (List ℕ)) (reply : Result Step SearchFault) → Turns task before old new after reply
-      → running reply ≡ 0 → after ≡ Running → ⊥
+      → count_if_running reply ≡ 0 → after ≡ Running → ⊥
   ended Running after reply turn none runs =
       ⊎_elim
       (λ (takes, told).
-      let one : running reply ≡ 1 = ap running (told ∙ ap reply_of runs) in
+      let one : count_if_running reply ≡ 1 = ap count_if_running (told ∙ ap reply_of runs) in
       omega (arith, none, one))
       (λ (stopped, told). cc)
       turn
@@ -52,7 +52,7 @@ all_kept (suc turns) before after (mid, reply, turn, rest) other =
 -- a search that had a turn with another reply has ended, whatever turns follow
 ends_at : (j : ℕ) (o : Option State) (old mid new : Batch) (reply : Result Step SearchFault) (list : List ℕ) (count : ℕ)
     → MatchOption o ((reply ≡ Err NoSuch) × Stays old mid) (λ before. TurnsAt j old mid before reply) → search_at old j ≡ o
-    → running reply ≡ 0 → TurnsFor list mid new count → (s : State) → search_at new j ≡ Some s → s.status ≡ Running → ⊥
+    → count_if_running reply ≡ 0 → TurnsFor list mid new count → (s : State) → search_at new j ≡ Some s → s.status ≡ Running → ⊥
 ends_at j None old mid new reply list count (told, stays) there none rest s at runs =
     let gone = (numbers_stay list mid new count rest).1 j (stays.searches j ∙ there) in
     none-some s (sym gone ∙ at)
@@ -68,7 +68,7 @@ pub quiet_turns_end : QuietTurnsEnd
 quiet_turns_end [] old new count turns none k i s listed at = absurd (none-some i listed)
 quiet_turns_end (j ∷ list) old new count (mid, reply, others, turn, rest, sum) none zero i s listed at =
     let same : j ≡ i = same_Some j i listed in
-    let quiet : running reply ≡ 0 = omega (arith, sum, none) in
+    let quiet : count_if_running reply ≡ 0 = omega (arith, sum, none) in
     let there : search_at new j ≡ Some s = subst (λ n. search_at new n ≡ Some s) (sym same) at in
     ends_at j (search_at old j) old mid new reply list others turn refl quiet rest s there
 quiet_turns_end (j ∷ list) old new count (mid, reply, others, turn, rest, sum) none (suc k) i s listed at =

@@ -18,13 +18,13 @@ pub record Batch : Type 0 where
   pub added : ℕ
 
 -- the search with this number in a list of them, if there is one
-abbrev pub found : List (ℕ × State) → ℕ → Option State
-found [] i = None
-found ((number, search) ∷ rest) i = if number == i then Some search else found rest i
+abbrev pub search_numbered : List (ℕ × State) → ℕ → Option State
+search_numbered [] i = None
+search_numbered ((number, search) ∷ rest) i = if number == i then Some search else search_numbered rest i
 
 -- the search with this number, if the batch holds one
 abbrev pub search_at : Batch → ℕ → Option State
-search_at batch i = found batch.searches i
+search_at batch i = search_numbered batch.searches i
 
 -- the numbers that searches are held under were given: they are below the next one
 abbrev pub NumbersWereGiven : Batch → Type 0
@@ -65,15 +65,15 @@ TurnFor i old new reply =
     MatchOption (search_at old i) ((reply ≡ Err NoSuch) × Stays old new) (λ before. TurnsAt i old new before reply)
 
 -- 1 for the reply of a search that is still running, else 0
-abbrev pub running : Result Step SearchFault → ℕ
-running (Ok Running) = 1
-running other = 0
+abbrev pub count_if_running : Result Step SearchFault → ℕ
+count_if_running (Ok Running) = 1
+count_if_running other = 0
 
 -- one turn for each number of a list, in its order, however often it stands there; so many replies were of running searches
 abbrev pub TurnsFor : List ℕ → Batch → Batch → ℕ → Type 0
 TurnsFor [] old new count = Stays old new × (count ≡ 0)
 TurnsFor (i ∷ list) old new count = (mid : Batch) × (reply : Result Step SearchFault) × (others : ℕ) × TurnFor i old mid reply
-    × TurnsFor list mid new others × (count ≡ running reply + others)
+    × TurnsFor list mid new others × (count ≡ count_if_running reply + others)
 
 -- how often a number stands in a list
 abbrev pub times : ℕ → List ℕ → ℕ

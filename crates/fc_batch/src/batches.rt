@@ -1,6 +1,6 @@
 ghost use Rattle.std.specs.Prelude.{◌≡◌, ◌+◌, ◌<◌, ◌≤◌, ℕ, Some, None, IfOk, IfErr, OnOk};
 ghost use Rattle.std.specs.Option.{option_copied};
-ghost use Rattle.fc_batch.specs.Batch.{search_at, NumbersWereGiven, Stays, OthersStay, TurnFor, TurnsFor, running, work_left};
+ghost use Rattle.fc_batch.specs.Batch.{search_at, NumbersWereGiven, Stays, OthersStay, TurnFor, TurnsFor, count_if_running, work_left};
 
 use fc_best_first::{SearchFault, Step};
 use fc_frontier::Frontier;
@@ -71,7 +71,7 @@ impl<F: Frontier + Drop, G: Game + Drop> Batch<F, G> {
     pub fn turn(&mut self, i: usize) -> Result<Step, SearchFault>
         ensures turn { TurnFor i self.old self.new result }
         ensures falls { result ≡ Ok Step.Running → work_left self.new < work_left self.old }
-        ensures most { work_left self.new + running result ≤ work_left self.old }
+        ensures most { work_left self.new + count_if_running result ≤ work_left self.old }
     {
         let Some(search) = self.searches.get_mut(&i) else {
             return Err(SearchFault::NoSuch);
@@ -113,7 +113,7 @@ impl<F: Frontier + Drop, G: Game + Drop> Batch<F, G> {
 
 // 1 for the reply of a search that is still running, else 0.
 fn running_of(reply: Result<Step, SearchFault>) -> usize
-    ensures value { result ≡ running reply }
+    ensures value { result ≡ count_if_running reply }
     ensures few { result ≤ 1 }
 {
     match reply {

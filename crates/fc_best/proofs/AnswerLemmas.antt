@@ -8,7 +8,7 @@ use Rattle.fc_answers.specs.Answer.{IsBackedBelow, IsBackedBy}
 use Rattle.fc_answers.specs.Table.{Listing}
 use Rattle.fc_answers.specs.declared.answers.Verdict.{Verdict}
 use Rattle.fc_answers.specs.declared.answers.Verdict.TheVariants.{Shortest, Won, CannotWin, GaveUp}
-use Rattle.fc_methods.specs.Method.{Asked}
+use Rattle.fc_methods.specs.Method.{QuestionData}
 use Rattle.fc_search.specs.Search.{State}
 use Rattle.fc_best.specs.declared.attempts.Shown.{Shown}
 use Rattle.fc_best.specs.declared.standings.Standing.{Standing}
@@ -33,7 +33,7 @@ no_number (Some n) is = absurd (is n refl)
 no_end : (end other : Shown) (n : ℕ) → Some other ≡ Some end → end.floor ≡ Some n → other.floor ≡ None → ⊥
 no_end end other n same floor none = absurd (cc)
 
-module _ (q : Asked) (b : Board) where
+module _ (q : QuestionData) (b : Board) where
   -- what is shown last
   end_so : (searches : List State) (shown : Option Shown) (end : Shown) → shown ≡ Some end → IfSome shown (λ e. IsEnd q b e × IsShownBy q searches e.floor)
       → IsEnd q b end × IsShownBy q searches end.floor

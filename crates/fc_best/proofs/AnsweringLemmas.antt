@@ -6,11 +6,11 @@ use Rattle.fc_answers.specs.Answer.{IsBacked}
 use Rattle.fc_answers.specs.declared.answers.Answer.{Answer}
 use Rattle.fc_answers.specs.declared.answers.Verdict.{Verdict}
 use Rattle.fc_answers.specs.declared.answers.Verdict.TheVariants.{Shortest, Won, CannotWin, GaveUp}
-use Rattle.fc_methods.specs.Method.{Asked}
+use Rattle.fc_methods.specs.Method.{QuestionData}
 use Rattle.fc_methods.specs.declared.methods.Sought.TheVariants.{ByMethod}
 use Rattle.fc_search.specs.Problem.{Problem, problem_of}
 use Rattle.fc_search.specs.Search.{Answers, IsVerdict}
-use Rattle.fc_search.specs.Watch.{Heard, HearsAll, HearsFar, IsHeardAtMost, IsHeardToEnd}
+use Rattle.fc_search.specs.Watch.{Report, HearsAll, HearsFar, IsHeardAtMost, IsHeardToEnd}
 use Rattle.fc_search.specs.declared.listeners.Progress.{Progress}
 use Rattle.fc_search.proofs.EndLemmas.{end_at_most}
 use Rattle.fc_best.specs.Answering.{HearsOfThem, HearsVerdict, IsCertifiable, TellsWins}
@@ -33,13 +33,13 @@ answer_certifiable p answer answers = record {
 }
 
 -- and so can a best answer
-wins_best : (q : Asked) (b : Board) (verdict : Verdict) → IsBestVerdict q b verdict → TellsWins q.game b verdict
+wins_best : (q : QuestionData) (b : Board) (verdict : Verdict) → IsBestVerdict q b verdict → TellsWins q.game b verdict
 wins_best q b (Shortest moves) is = is.right.wins
 wins_best q b (Won moves floor) is = is.right.0
 wins_best q b CannotWin is = tt
 wins_best q b (GaveUp told) is = tt
 
-pub best_certifiable : (q : Asked) (b : Board) (answer : Answer) → IsBestAnswer q b answer → IsBacked q.game b answer
+pub best_certifiable : (q : QuestionData) (b : Board) (answer : Answer) → IsBestAnswer q b answer → IsBacked q.game b answer
     → IsCertifiable (problem_of q b) answer
 best_certifiable q b answer best backed = record {
   wins = wins_best q b answer.verdict best.told;
@@ -49,7 +49,7 @@ best_certifiable q b answer best backed = record {
   searched = best.tabled;
 }
 
-module _ {L A E : Type 0} (hears : L → Heard → L → Type 0) (q : Asked) (b : Board) (verdict_of : A → Verdict) (old new : L) where
+module _ {L A E : Type 0} (hears : L → Report → L → Type 0) (q : QuestionData) (b : Board) (verdict_of : A → Verdict) (old new : L) where
   -- what was heard of a search by the question's method, which came to this
   abbrev pub IsHeardTo : Result A E → Type 0
   IsHeardTo result = (heard : List Progress) × HearsAll (HearsFar hears) old heard new

@@ -14,7 +14,7 @@ use Rattle.fc_bound.specs.declared.kinds.BoundKind.TheVariants.{Plain}
 use Rattle.fc_answers.specs.Answer.{IsBackedWhole}
 use Rattle.fc_best_first.specs.Limits.{Ratio}
 use Rattle.fc_moves.specs.GameRules.{GameRules}
-use Rattle.fc_methods.specs.Method.{Asked}
+use Rattle.fc_methods.specs.Method.{QuestionData}
 use Rattle.fc_search.specs.Need.{NeedsMore}
 use Rattle.fc_search.specs.Problem.{Problem, problem_below}
 use Rattle.fc_search.specs.Search.{State, HasRun}
@@ -22,7 +22,7 @@ use Rattle.fc_search.specs.Shown.{BacksShown, HasFound, HasFoundBy, HasShown, Ha
 use Rattle.fc_best.specs.declared.attempts.Attempt.{Attempt}
 use Rattle.fc_best.specs.declared.attempts.Shown.{Shown}
 use Rattle.fc_best.specs.inner.Attempt.{IsAttempt, IsFoundIn, IsGivenUp, IsGoodList, IsShown, IsShownAt, IsShownIn, IsTableOf, Raises, ShowsNone}
-use Rattle.fc_best.specs.inner.Standing.{looked_with, lost_by, lost_with, under, with_share}
+use Rattle.fc_best.specs.inner.Standing.{look_with, loss_by, loss_with, under, with_share}
 
 -- what a search found is a good list
 good_by : (s : State) (status : Status (List ℕ)) (moves : List Move) → HasFoundBy s status (Some moves) → IsGoodList s.problem.game s.problem.start moves
@@ -46,14 +46,14 @@ lost_shown s (ends.GaveUp y number) done none still free = absurd (still y numbe
 lost_shown s ends.CannotWin done none still free = sym free
 
 -- what is shown of a problem is so of its question, and its table is one of the question
-table_so : (q : Asked) (b : Board) (limit shown : Option ℕ) (table : Option Listing)
+table_so : (q : QuestionData) (b : Board) (limit shown : Option ℕ) (table : Option Listing)
     → IfSome table (BacksShown (problem_below q b limit) shown)
     → IfSome table (λ t. (t.rule ≡ q.method.rule) × (t.bound ≡ q.method.bound) × (length t.rows ≤ q.method.strategy.budget))
     → IfSome table (IsTableOf q b shown)
 table_so q b limit shown None backs searched = tt
 table_so q b limit shown (Some table) backs searched = record { rule = searched.0; bound = searched.1; few = searched.2; backed = backs }
 
-shown_in : (q : Asked) (b : Board) (limit : Option ℕ) (s : State) (shown : Option Shown) → s.problem ≡ problem_below q b limit
+shown_in : (q : QuestionData) (b : Board) (limit : Option ℕ) (s : State) (shown : Option Shown) → s.problem ≡ problem_below q b limit
     → IfSome shown (IsShownAt s) → IfSome shown (IsShownIn q b s)
 shown_in q b limit s None same is = tt
 shown_in q b limit s (Some end) same is = (
@@ -91,7 +91,7 @@ none_ends : (s : State) (g : Option ℕ) → g ≡ None → IfNone g ((y : List 
 none_ends s None is still = still
 none_ends s (Some told) is still = absurd (cc)
 
-pub attempted : (q : Asked) (b : Board) (limit : Option ℕ) (s : State) (list : Option (List Move)) (shown : Option Shown)
+pub attempted : (q : QuestionData) (b : Board) (limit : Option ℕ) (s : State) (list : Option (List Move)) (shown : Option Shown)
     (stored : ℕ) (given_up : Option ℕ) (ajar : ℕ) → s.problem ≡ problem_below q b limit
     → HasRun (problem_below q b limit) s.store s.status → reply_of s.status ≡ Ok Done
     → HasFound s list → IfSome shown (IsShownAt s) → (HasShown s None → ShowsNone shown)
@@ -132,56 +132,56 @@ whole_by g b kind table is = record {
 }
 
 -- the table of a look that showed that none wins is one of the question, under its bound
-looked_table : (q : Asked) (b : Board) (weight : Ratio) (share : ℕ) (kind : BoundKind) (table : Option Listing) → kind ≡ q.method.bound
-    → IfSome table (IsTableOf (looked_with q weight share) b None) → IfSome (under kind table) (IsTableOf (with_share q weight share) b None)
+looked_table : (q : QuestionData) (b : Board) (weight : Ratio) (share : ℕ) (kind : BoundKind) (table : Option Listing) → kind ≡ q.method.bound
+    → IfSome table (IsTableOf (look_with q weight share) b None) → IfSome (under kind table) (IsTableOf (with_share q weight share) b None)
 looked_table q b weight share kind None same is = tt
 looked_table q b weight share kind (Some table) same is =
     record { rule = is.rule; bound = same; few = is.few; backed = whole_by q.game b kind table is.backed }
 
 -- what is left of what a look showed is so of the question
-looked_end : (q : Asked) (b : Board) (weight : Ratio) (share : ℕ) (kind : BoundKind) (s : State) (floor : Option ℕ) (table : Option Listing)
-    → kind ≡ q.method.bound → IsShownIn (looked_with q weight share) b s (record { floor = floor; table = table })
-    → IfSome (lost_with kind floor table) (IsShownIn (with_share q weight share) b s)
+looked_end : (q : QuestionData) (b : Board) (weight : Ratio) (share : ℕ) (kind : BoundKind) (s : State) (floor : Option ℕ) (table : Option Listing)
+    → kind ≡ q.method.bound → IsShownIn (look_with q weight share) b s (record { floor = floor; table = table })
+    → IfSome (loss_with kind floor table) (IsShownIn (with_share q weight share) b s)
 looked_end q b weight share kind s (Some floor) table same is = tt
 looked_end q b weight share kind s None table same is = ((is.0.0, looked_table q b weight share kind table same is.0.1), is.1)
 
-looked_shown : (q : Asked) (b : Board) (weight : Ratio) (share : ℕ) (kind : BoundKind) (s : State) (shown : Option Shown) → kind ≡ q.method.bound
-    → IfSome shown (IsShownIn (looked_with q weight share) b s) → IfSome (lost_by kind shown) (IsShownIn (with_share q weight share) b s)
+looked_shown : (q : QuestionData) (b : Board) (weight : Ratio) (share : ℕ) (kind : BoundKind) (s : State) (shown : Option Shown) → kind ≡ q.method.bound
+    → IfSome shown (IsShownIn (look_with q weight share) b s) → IfSome (loss_by kind shown) (IsShownIn (with_share q weight share) b s)
 looked_shown q b weight share kind s None same is = tt
 looked_shown q b weight share kind s (Some end) same is = looked_end q b weight share kind s end.floor end.table same is
 
 -- no floor is left of it
 module _ (P : ℕ → Type 0) where
-  unfloored_with : (kind : BoundKind) (floor : Option ℕ) (table : Option Listing) → IfSome (lost_with kind floor table) (λ end. IfSome end.floor P)
+  unfloored_with : (kind : BoundKind) (floor : Option ℕ) (table : Option Listing) → IfSome (loss_with kind floor table) (λ end. IfSome end.floor P)
   unfloored_with kind None table = tt
   unfloored_with kind (Some floor) table = tt
 
-  pub unfloored : (kind : BoundKind) (shown : Option Shown) → IfSome (lost_by kind shown) (λ end. IfSome end.floor P)
+  pub unfloored : (kind : BoundKind) (shown : Option Shown) → IfSome (loss_by kind shown) (λ end. IfSome end.floor P)
   unfloored kind None = tt
   unfloored kind (Some end) = unfloored_with kind end.floor end.table
 
-raised_with : (kind : BoundKind) (least floor : Option ℕ) (table : Option Listing) → IfSome (lost_with kind floor table) (λ end. Raises least end.floor)
+raised_with : (kind : BoundKind) (least floor : Option ℕ) (table : Option Listing) → IfSome (loss_with kind floor table) (λ end. Raises least end.floor)
 raised_with kind None None table = tt
 raised_with kind (Some n) None table = tt
 raised_with kind least (Some floor) table = tt
 
-pub lost_raises : (kind : BoundKind) (least : Option ℕ) (shown : Option Shown) → IfSome (lost_by kind shown) (λ end. Raises least end.floor)
+pub lost_raises : (kind : BoundKind) (least : Option ℕ) (shown : Option Shown) → IfSome (loss_by kind shown) (λ end. Raises least end.floor)
 lost_raises kind least None = tt
 lost_raises kind least (Some end) = raised_with kind least end.floor end.table
 
 -- that none wins is left
-still_lost_with : (kind : BoundKind) (floor : Option ℕ) (table : Option Listing) → floor ≡ None → ShowsNone (lost_with kind floor table)
+still_lost_with : (kind : BoundKind) (floor : Option ℕ) (table : Option Listing) → floor ≡ None → ShowsNone (loss_with kind floor table)
 still_lost_with kind None table none = (record { floor = None; table = under kind table }, refl, refl)
 still_lost_with kind (Some floor) table none = absurd (cc)
 
-still_lost : (kind : BoundKind) (shown : Option Shown) → ShowsNone shown → ShowsNone (lost_by kind shown)
+still_lost : (kind : BoundKind) (shown : Option Shown) → ShowsNone shown → ShowsNone (loss_by kind shown)
 still_lost kind None (end, same, none) = absurd (cc)
 still_lost kind (Some now) (end, same, none) =
     still_lost_with kind now.floor now.table (search (same, none))
 
 -- a look is a search of the question, once what it showed is that none wins, with a table under the question's bound
-pub looked_attempt : (q : Asked) (b : Board) (weight : Ratio) (share : ℕ) (kind : BoundKind) (one : Attempt) (shown : Option Shown)
-    → kind ≡ q.method.bound → shown ≡ lost_by kind one.shown → IsAttempt (looked_with q weight share) Plain b None one
+pub looked_attempt : (q : QuestionData) (b : Board) (weight : Ratio) (share : ℕ) (kind : BoundKind) (one : Attempt) (shown : Option Shown)
+    → kind ≡ q.method.bound → shown ≡ loss_by kind one.shown → IsAttempt (look_with q weight share) Plain b None one
     → IsAttempt (with_share q weight share) Plain b None
     (record { list = one.list; shown = shown; stored = one.stored; given_up = one.given_up; open_share = one.open_share })
 looked_attempt q b weight share kind one shown same left is = record {
@@ -199,11 +199,11 @@ looked_attempt q b weight share kind one shown same left is = record {
 }
 
 -- of a table of what shows that none wins one is made
-tabled_with : (kind : BoundKind) (floor : Option ℕ) (table : Option Listing) → IsSome table → IfSome (lost_with kind floor table) (λ end. IsSome end.table)
+tabled_with : (kind : BoundKind) (floor : Option ℕ) (table : Option Listing) → IsSome table → IfSome (loss_with kind floor table) (λ end. IsSome end.table)
 tabled_with kind (Some floor) table some = tt
 tabled_with kind None (Some table) some = refl
 tabled_with kind None None some = absurd (cc)
 
-pub lost_tabled : (kind : BoundKind) (shown : Option Shown) → IfSome shown (λ end. IsSome end.table) → IfSome (lost_by kind shown) (λ end. IsSome end.table)
+pub lost_tabled : (kind : BoundKind) (shown : Option Shown) → IfSome shown (λ end. IsSome end.table) → IfSome (loss_by kind shown) (λ end. IsSome end.table)
 lost_tabled kind None some = tt
 lost_tabled kind (Some end) some = tabled_with kind end.floor end.table some

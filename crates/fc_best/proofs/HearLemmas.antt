@@ -7,8 +7,8 @@ use Rattle.fc_position.specs.Board.{Board}
 use Rattle.fc_moves.specs.declared.steps.Move.{Move}
 use Rattle.fc_moves.specs.GameRules.{GameRules}
 use Rattle.fc_moves.specs.Run.{Wins}
-use Rattle.fc_methods.specs.Method.{Asked}
-use Rattle.fc_search.specs.Watch.{HearsAll, Better, Far, Heard}
+use Rattle.fc_methods.specs.Method.{QuestionData}
+use Rattle.fc_search.specs.Watch.{HearsAll, Better, Far, Report}
 use Rattle.fc_answers.specs.declared.answers.Verdict.{Verdict}
 use Rattle.fc_best.specs.declared.attempts.Shown.{Shown}
 use Rattle.fc_search.specs.declared.listeners.Progress.{Progress}
@@ -31,7 +31,7 @@ hears_both hears old mid new [] more same rest = subst (λ m. HearsAll hears m m
 hears_both hears old mid new (far ∷ later) more (next, first, rest) then = (next, first, hears_both hears next mid new later more rest then)
 
 -- the list that was heard last of some and then of others
-last_both : (before : Option (List Move × ℕ)) (heard more : List Heard) → last_list before (heard ++ more) ≡ last_list (last_list before heard) more
+last_both : (before : Option (List Move × ℕ)) (heard more : List Report) → last_list before (heard ++ more) ≡ last_list (last_list before heard) more
 last_both before [] more = refl
 last_both before (Far far ∷ later) more = last_both before later more
 last_both before (Better moves floor ∷ later) more = last_both (Some (moves, floor)) later more
@@ -41,7 +41,7 @@ same_listed : (one two : Option ℕ) → two ≡ one → IfSome one (λ n. (m : 
 same_listed None two same = tt
 same_listed (Some n) two same = (n, same, omega arith)
 
-pub no_worse_same : (one two : Heard) → moves_heard two ≡ moves_heard one → floor_heard two ≡ floor_heard one → IsNoWorse one two
+pub no_worse_same : (one two : Report) → moves_heard two ≡ moves_heard one → floor_heard two ≡ floor_heard one → IsNoWorse one two
 no_worse_same one two listed least = record {
   listed = same_listed (moves_heard one) (moves_heard two) listed;
   least = let same = least in omega (arith, same);
@@ -55,34 +55,34 @@ listed_on (Some n) two three (m, same, le) second =
     let more = subst (λ o. IfSome o (λ k. (j : ℕ) × (three ≡ Some j) × (j ≤ k))) same second in
     (more.0, more.1, let next = more.2 in omega (arith, le, next))
 
-pub no_worse_on : (one two three : Heard) → IsNoWorse one two → IsNoWorse two three → IsNoWorse one three
+pub no_worse_on : (one two three : Report) → IsNoWorse one two → IsNoWorse two three → IsNoWorse one three
 no_worse_on one two three first second = record {
   listed = listed_on (moves_heard one) (moves_heard two) (moves_heard three) first.listed second.listed;
   least = let low = first.least in let high = second.least in omega (arith, low, high);
 }
 
 -- what got no worse up to one and then up to another did so
-rises_first : (one two last : Heard) (heard : List Heard) → IsNoWorse one two → Rises two heard last → Rises one heard last
+rises_first : (one two last : Report) (heard : List Report) → IsNoWorse one two → Rises two heard last → Rises one heard last
 rises_first one two last [] first rises = no_worse_on one two last first rises
 rises_first one two last (next ∷ later) first (no_worse, rest) = (no_worse_on one two next first no_worse, rest)
 
-rises_both : (first mid last : Heard) (heard more : List Heard) → Rises first heard mid → Rises mid more last → Rises first (heard ++ more) last
+rises_both : (first mid last : Report) (heard more : List Report) → Rises first heard mid → Rises mid more last → Rises first (heard ++ more) last
 rises_both first mid last [] more one two = rises_first first mid last more one two
 rises_both first mid last (next ∷ later) more (no_worse, rest) two = (no_worse, rises_both next mid last later more rest two)
 
 -- then each is no worse than the first, and than those before it
-rises_above : (first last : Heard) (heard : List Heard) → Rises first heard last → All (IsNoWorse first) heard
+rises_above : (first last : Report) (heard : List Report) → Rises first heard last → All (IsNoWorse first) heard
 rises_above first last [] rises = All-nil (IsNoWorse first)
 rises_above first last (next ∷ later) (no_worse, rest) =
     All-cons (IsNoWorse first) next later no_worse (λ k d within. no_worse_on first next _ no_worse (rises_above next last later rest k d within))
 
-rises_pairs : (first last : Heard) (heard : List Heard) → Rises first heard last → AllPairs IsNoWorse heard
+rises_pairs : (first last : Report) (heard : List Report) → Rises first heard last → AllPairs IsNoWorse heard
 rises_pairs first last [] rises = λ i j d lt within. absurd (omega (arith, lt, within))
 rises_pairs first last (next ∷ later) (no_worse, rest) =
     AllPairs-cons IsNoWorse next later (rises_above next last later rest) (rises_pairs next last later rest)
 
 -- while one search goes on nothing changes, and no list is heard
-further_rises : (before : Progress) (first last : Heard) (heard : List Heard) → IsFurtherTold before first → All (IsFurtherTold before) heard
+further_rises : (before : Progress) (first last : Report) (heard : List Report) → IsFurtherTold before first → All (IsFurtherTold before) heard
     → IsNoWorse (Far before) last → Rises first heard last
 further_rises before (Better moves floor) last heard none all no_worse = absurd none
 further_rises before (Far first) last [] one all no_worse =
@@ -95,7 +95,7 @@ further_rises before (Far first) last (Far far ∷ later) one all no_worse =
       further_rises before (Far far) last later next (λ k d within. all (suc k) d (omega (arith, within))) no_worse,
     )
 
-further_keeps : (before : Progress) (list : Option (List Move × ℕ)) (heard : List Heard) → All (IsFurtherTold before) heard → last_list list heard ≡ list
+further_keeps : (before : Progress) (list : Option (List Move × ℕ)) (heard : List Report) → All (IsFurtherTold before) heard → last_list list heard ≡ list
 further_keeps before list [] all = refl
 further_keeps before list (Far far ∷ later) all = further_keeps before list later (λ k d within. all (suc k) d (omega (arith, within)))
 further_keeps before list (Better moves floor ∷ later) all = let none : ⊥ = all 0 (Better moves floor) (omega arith) in absurd none
@@ -113,12 +113,12 @@ least_by : (g : GameRules) (b : Board) (floor : Option ℕ) (n : ℕ) → IsShow
 least_by g b None n none same = λ moves wins. absurd (none moves wins)
 least_by g b (Some m) n floor same = subst (IsFloor g b) (sym same) floor
 
-least_so : (q : Asked) (b : Board) (P : Shown → Type 0) (shown : Option Shown) (n : ℕ) → IfSome shown (λ end. IsEnd q b end × P end)
+least_so : (q : QuestionData) (b : Board) (P : Shown → Type 0) (shown : Option Shown) (n : ℕ) → IfSome shown (λ end. IsEnd q b end × P end)
     → IsLeastOf shown n → IsFloor q.game b n
 least_so q b P None n is none = λ moves wins. omega (arith, none)
 least_so q b P (Some end) n is same = least_by q.game b end.floor n is.0.0 same
 
-module _ (q : Asked) (b : Board) where
+module _ (q : QuestionData) (b : Board) where
   -- how far searches are that stand so
   pub told_stands : (s : Standing) → Stands q b s → IsTold q b s.far
   told_stands s (searches, tails, is) = record {
@@ -136,7 +136,7 @@ module _ (q : Asked) (b : Board) where
   }
 
   -- what is heard after that is so
-  further_so : (before : Progress) (heard : List Heard) → IsTold q b before → All (IsFurtherTold before) heard → All (IsSo q b) heard
+  further_so : (before : Progress) (heard : List Report) → IsTold q b before → All (IsFurtherTold before) heard → All (IsSo q b) heard
   further_so before [] told all = All-nil (IsSo q b)
   further_so before (Far far ∷ later) told all =
       All-cons (IsSo q b) (Far far) later (told_further before far told (all 0 (Far far) (omega arith)))
@@ -180,7 +180,7 @@ module _ (q : Asked) (b : Board) where
       ap (λ o. with_floor o s.far.at_least) (sym one) ∙ ap (λ n. with_floor last.list n) (sym equal.1))
       better
 
-  module _ {L : Type 0} (hears : L → Heard → L → Type 0) where
+  module _ {L : Type 0} (hears : L → Report → L → Type 0) where
     pub hears_none : (s : Standing) (old new : L) → new ≡ old → HearsOn hears q b s s old new
     hears_none s old new same = ([], same, (All-nil (IsSo q b), no_worse_same (Far s.far) (Far s.far) refl refl), refl)
 
@@ -203,8 +203,8 @@ module _ (q : Asked) (b : Board) where
     )
 
     -- where the searches so far stand so, and one more is heard after them
-    hears_search : (s : Standing) (last : Heard) (old new : L) → Stands q b s → HearsFurther hears s.far old new → IsNoWorse (Far s.far) last
-        → (heard : List Heard) × HearsAll hears old heard new × IsSoUp q b (Far s.far) heard last × (last_list (list_in s) heard ≡ list_in s)
+    hears_search : (s : Standing) (last : Report) (old new : L) → Stands q b s → HearsFurther hears s.far old new → IsNoWorse (Far s.far) last
+        → (heard : List Report) × HearsAll hears old heard new × IsSoUp q b (Far s.far) heard last × (last_list (list_in s) heard ≡ list_in s)
     hears_search s last old new stands (heard, hearing, further) no_worse = (
       heard,
       hearing,
@@ -234,7 +234,7 @@ module _ (q : Asked) (b : Board) where
         → IsNoWorse (Far s.far) (Far last.far) → last.list ≡ Some moves → hears mid (Better moves last.far.at_least) new
         → HearsOn hears q b s last old new
     hears_better s last moves old mid new was stands further no_worse some hearing =
-        let better : Heard = Better moves last.far.at_least in
+        let better : Report = Better moves last.far.at_least in
         let equal = list_as_told last moves stands some in
         let up : IsNoWorse (Far last.far) better = no_worse_same (Far last.far) better (sym equal) refl in
         let down : IsNoWorse better (Far last.far) = no_worse_same better (Far last.far) equal refl in
@@ -265,7 +265,7 @@ module _ (q : Asked) (b : Board) where
     pub hears_end : (first last : Standing) (old mid new : L) (verdict : Verdict) → HearsOn hears q b first last old mid → hears mid (Far last.far) new
         → first.list ≡ None → Stands q b last → IsToldOf verdict last.far → list_in last ≡ list_told verdict → HearsToEnd hears q b verdict old new
     hears_end first last old mid new verdict (heard, hearing, (so, rises), list) end none stands of_verdict listed =
-        let far : Heard = Far last.far in
+        let far : Report = Far last.far in
         let still = no_worse_same far far refl refl in (
           heard,
           last.far,

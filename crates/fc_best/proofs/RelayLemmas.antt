@@ -4,7 +4,7 @@ use Rattle.std.specs.Prelude.{All}
 use Rattle.std.proofs.lemmas.List.Elements.{All-nil, All-cons}
 use Rattle.fc_position.specs.Board.{Board}
 use Rattle.fc_moves.specs.GameRules.{GameRules}
-use Rattle.fc_search.specs.Watch.{Far, Heard, HearsAll, HearsFar, TellFloors}
+use Rattle.fc_search.specs.Watch.{Far, Report, HearsAll, HearsFar, TellFloors}
 use Rattle.fc_search.specs.declared.listeners.Progress.{Progress}
 use Rattle.fc_best.specs.declared.relays.Relay.{Relay}
 use Rattle.fc_best.specs.inner.Watch.{HearsFurther, IsFurther, IsFurtherTold, IsJoined, Relays}
@@ -17,7 +17,7 @@ further_same far = record { budget = refl; shortest = refl; at_least = refl }
 further_joined : (before : Progress) (one : Progress) (far : Progress) → IsJoined before one far → IsFurther before far
 further_joined before one far joined = record { budget = joined.budget; shortest = joined.shortest; at_least = joined.at_least }
 
-module _ {L : Type 0} (hears : L → Heard → L → Type 0) where
+module _ {L : Type 0} (hears : L → Report → L → Type 0) where
   -- what a relay that hears a search does
   abbrev pub relays : Relay L → Progress → Relay L → Type 0
   relays = HearsFar (Relays hears)
@@ -25,7 +25,7 @@ module _ {L : Type 0} (hears : L → Heard → L → Type 0) where
   -- the relay is still of the same listener, which heard these, all told after what was told before; and so is what was told last
   pub record Passes (before : Progress) (old new : Relay L) : Type 0 where
     pub name : new.listener.ghost_name ≡ old.listener.ghost_name
-    pub told : List Heard
+    pub told : List Report
     pub hearing : HearsAll hears old.listener.now told new.listener.now
     pub further : All (IsFurtherTold before) told
     pub last : IsFurther before new.last

@@ -13,7 +13,7 @@ use Rattle.fc_answers.specs.declared.answers.TheConstants.{MOST_MOVES}
 use Rattle.fc_best_first.specs.Limits.{Ratio}
 use Rattle.fc_bound.specs.declared.kinds.BoundKind.{BoundKind}
 use Rattle.fc_bound.specs.declared.kinds.BoundKind.TheVariants.{Plain}
-use Rattle.fc_methods.specs.Method.{Asked}
+use Rattle.fc_methods.specs.Method.{QuestionData}
 use Rattle.fc_search.specs.Search.{State}
 use Rattle.fc_search.specs.Shown.{HasShown}
 use Rattle.fc_best.specs.declared.attempts.Attempt.{Attempt}
@@ -24,7 +24,7 @@ use Rattle.fc_best.specs.Best.{HasGivenUp, HaveGivenUp, IsListOf, of_search, of_
 use Rattle.fc_best.specs.Watch.{IsNoWorse}
 use Rattle.fc_search.specs.Watch.{Far}
 use Rattle.fc_best.specs.inner.Attempt.{IsAttempt, IsEnd, IsFoundIn, IsGivenUp, IsGoodList, IsShownIn, IsTableOf, Raises, ShowsNone, floor_of}
-use Rattle.fc_best.specs.inner.Standing.{AllGaveUp, IsLeastOf, IsShorter, IsShownBy, Stands, greater, limit_of, looked_with, newest, with_share}
+use Rattle.fc_best.specs.inner.Standing.{AllGaveUp, IsLeastOf, IsShorter, IsShownBy, Stands, greater, limit_of, look_with, newest, with_share}
 use Rattle.fc_best.specs.inner.Watch.{IsAfter, IsFurther, floor_shown}
 
 -- the first of a list is one of it, and so is one of the rest
@@ -54,28 +54,28 @@ list_after g b ended searches tails moves (of_tail ms front old tail one parts o
     of_tail ms front old tail one parts (list_after g b ended searches tails _ of) shorter of_these there found
 
 -- and so does what was shown
-shown_after : (q : Asked) (ended : State) (searches : List State) (floor : Option ℕ) → IsShownBy q searches floor → IsShownBy q (ended ∷ searches) floor
+shown_after : (q : QuestionData) (ended : State) (searches : List State) (floor : Option ℕ) → IsShownBy q searches floor → IsShownBy q (ended ∷ searches) floor
 shown_after q ended searches None is =
     record { one = is.one; of_these = rest_of ended is.one searches is.of_these; shown = is.shown }
 shown_after q ended searches (Some n) is =
     record { one = is.one; of_these = rest_of ended is.one searches is.of_these; bound = is.bound; shown = is.shown }
 
 -- what the search itself showed rests on it
-shown_first : (q : Asked) (kind : BoundKind) (ended : State) (searches : List State) (floor : Option ℕ) → ended.problem.method.bound ≡ kind
+shown_first : (q : QuestionData) (kind : BoundKind) (ended : State) (searches : List State) (floor : Option ℕ) → ended.problem.method.bound ≡ kind
     → IfSome floor (λ n. kind ≡ q.method.bound) → HasShown ended floor → IsShownBy q (ended ∷ searches) floor
 shown_first q kind ended searches None by bound shown = record { one = ended; of_these = first_of ended searches; shown = shown }
 shown_first q kind ended searches (Some n) by bound shown =
     record { one = ended; of_these = first_of ended searches; bound = by ∙ bound; shown = shown }
 
 -- a table of a question with another weight and budget is one of the question
-tabled_so : (q : Asked) (b : Board) (weight : Ratio) (share : ℕ) (floor : Option ℕ) (table : Option Listing) → share ≤ q.method.strategy.budget
+tabled_so : (q : QuestionData) (b : Board) (weight : Ratio) (share : ℕ) (floor : Option ℕ) (table : Option Listing) → share ≤ q.method.strategy.budget
     → IfSome table (IsTableOf (with_share q weight share) b floor) → IfSome table (IsTableOf q b floor)
 tabled_so q b weight share floor None within h = tt
 tabled_so q b weight share floor (Some table) within h =
     record { rule = h.rule; bound = h.bound; few = (let few = h.few in omega (arith, few, within)); backed = h.backed }
 
 -- what is shown newly, or was before, is so, and rests on the searches
-newest_shown : (q : Asked) (kind : BoundKind) (b : Board) (weight : Ratio) (share : ℕ) (ended : State) (searches : List State) (new old : Option Shown)
+newest_shown : (q : QuestionData) (kind : BoundKind) (b : Board) (weight : Ratio) (share : ℕ) (ended : State) (searches : List State) (new old : Option Shown)
     → share ≤ q.method.strategy.budget → ended.problem.method.bound ≡ kind → IfSome new (IsShownIn (with_share q weight share) b ended)
     → IfSome new (λ end. IfSome end.floor (λ n. kind ≡ q.method.bound))
     → IfSome old (λ end. IsEnd q b end × IsShownBy q searches end.floor)
@@ -101,7 +101,7 @@ none_newly None old (end, same, none) = absurd (cc)
 none_newly (Some x) old is = is
 
 -- all gave up, with the greater budget, where one more did
-more_gave_up : (q : Asked) (b : Board) (searches : List State) (ended : State) (shown new : Option Shown) (before : Option ℕ) (told : ℕ)
+more_gave_up : (q : QuestionData) (b : Board) (searches : List State) (ended : State) (shown new : Option Shown) (before : Option ℕ) (told : ℕ)
     → AllGaveUp q b searches shown before → IsGivenUp q.game b ended told → told ≤ q.method.strategy.budget
     → AllGaveUp q b (ended ∷ searches) new (greater before (Some told))
 more_gave_up q b searches ended shown new None told (none, unshown) is few = (
@@ -127,7 +127,7 @@ more_gave_up q b searches ended shown new (Some before) told (have, least, reach
     (in_order before told)
 
 -- where no list is found, it is shown that none wins, or all gave up
-none_found : (q : Asked) (b : Board) (searches : List State) (ended : State) (old new : Option Shown) (before told : Option ℕ)
+none_found : (q : QuestionData) (b : Board) (searches : List State) (ended : State) (old new : Option Shown) (before told : Option ℕ)
     → (ShowsNone old → ⊥) → ShowsNone old ⊎ AllGaveUp q b searches old before
     → IfSome told (λ n. IsGivenUp q.game b ended n × (n ≤ q.method.strategy.budget)) → (told ≡ None → ShowsNone new)
     → ShowsNone (newest new old) ⊎ AllGaveUp q b (ended ∷ searches) (newest new old) (greater before told)
@@ -137,7 +137,7 @@ none_found q b searches ended old new before (Some told) going (inr gave) is non
     inr (more_gave_up q b searches ended old (newest new old) before told gave is.0 is.1)
 
 -- what was given up with is no more than the budget, of which it is a share
-given_so : (q : Asked) (b : Board) (ended : State) (share : ℕ) (told : Option ℕ) → share ≤ q.method.strategy.budget
+given_so : (q : QuestionData) (b : Board) (ended : State) (share : ℕ) (told : Option ℕ) → share ≤ q.method.strategy.budget
     → IfSome told (λ n. IsGivenUp q.game b ended n × (n ≤ share)) → IfSome told (λ n. IsGivenUp q.game b ended n × (n ≤ q.method.strategy.budget))
 given_so q b ended share None all h = tt
 given_so q b ended share (Some told) all h = (h.0, let few = h.1 in omega (arith, few, all))
@@ -176,13 +176,13 @@ rises_after (Some moves) list before far was is (shorter, same, le) least = reco
   least = least;
 }
 
-pub after_rises : (q : Asked) (b : Board) (old : Standing) (new list : Option (List Move)) (last far : Progress) (shown : Option ℕ) → Stands q b old
+pub after_rises : (q : QuestionData) (b : Board) (old : Standing) (new list : Option (List Move)) (last far : Progress) (shown : Option ℕ) → Stands q b old
     → IsFurther old.far last → IsShorter new old.list list → IsAfter last shown (limit_of list) far → IsNoWorse (Far old.far) (Far far)
 after_rises q b old new list last far shown (searches, tails, was) further short after =
     rises_after old.list list old.far far was.told.shortest after.shortest short.kept
     (let same = further.at_least in let most = after.at_least in omega (arith, same, most))
 
-pub after_stands : (q : Asked) (kind : BoundKind) (b : Board) (weight : Ratio) (share : ℕ) (old : Standing) (attempt : Attempt) (last new : Progress)
+pub after_stands : (q : QuestionData) (kind : BoundKind) (b : Board) (weight : Ratio) (share : ℕ) (old : Standing) (attempt : Attempt) (last new : Progress)
     (list : Option (List Move)) (shown : Option Shown) (most : Option ℕ) → Stands q b old → IsFurther old.far last
     → IsAfter last (floor_of attempt.shown) (limit_of list) new → IsShorter attempt.list old.list list → shown ≡ newest attempt.shown old.shown
     → most ≡ greater old.given_up attempt.given_up → (ShowsNone old.shown → ⊥) → share ≤ old.left → attempt.stored ≤ old.left
@@ -233,27 +233,27 @@ after_stands q kind b weight share old attempt last new list shown most (searche
 )
 
 -- a list that a search found has few moves
-pub attempt_few : (q : Asked) (kind : BoundKind) (b : Board) (limit : Option ℕ) (one : Attempt) → IsAttempt q kind b limit one
+pub attempt_few : (q : QuestionData) (kind : BoundKind) (b : Board) (limit : Option ℕ) (one : Attempt) → IsAttempt q kind b limit one
     → IfSome one.list (λ moves. length moves ≤ MOST_MOVES)
 attempt_few q kind b limit one is =
     if_some (IsFoundIn q.game b is.ended) (λ moves. length moves ≤ MOST_MOVES) one.list (λ moves found. found.0.few) is.list
 
 -- what a look for any list found is so of the question by the plain bound
-pub look_found : (q asked : Asked) (b : Board) (weight : Ratio) (share : ℕ) (limit : Option ℕ) (one : Attempt)
-    → asked ≡ looked_with q weight share → limit ≡ None → IsAttempt asked asked.method.bound b limit one
-    → IsAttempt (looked_with q weight share) Plain b None one
+pub look_found : (q asked : QuestionData) (b : Board) (weight : Ratio) (share : ℕ) (limit : Option ℕ) (one : Attempt)
+    → asked ≡ look_with q weight share → limit ≡ None → IsAttempt asked asked.method.bound b limit one
+    → IsAttempt (look_with q weight share) Plain b None one
 look_found q asked b weight share limit one same none is =
     subst (λ a. IsAttempt a a.method.bound b None one) same (subst (λ l. IsAttempt asked asked.method.bound b l one) none is)
 
 -- what a search by a weight and a share found is so of the question
-pub attempt_found : (q asked : Asked) (b : Board) (weight : Ratio) (share : ℕ) (old limit : Option ℕ) (one : Attempt)
+pub attempt_found : (q asked : QuestionData) (b : Board) (weight : Ratio) (share : ℕ) (old limit : Option ℕ) (one : Attempt)
     → asked ≡ with_share q weight share → limit ≡ old → IsAttempt asked asked.method.bound b limit one
     → IsAttempt (with_share q weight share) q.method.bound b old one
 attempt_found q asked b weight share old limit one same below is =
     subst (λ a. IsAttempt a a.method.bound b old one) same (subst (λ l. IsAttempt asked asked.method.bound b l one) below is)
 
 -- the list of searches that stand so can be written
-pub list_written : (q : Asked) (b : Board) (s : Standing) → Stands q b s → IfSome s.list (λ moves. All HasText moves × (length moves ≤ MOST_MOVES))
+pub list_written : (q : QuestionData) (b : Board) (s : Standing) → Stands q b s → IfSome s.list (λ moves. All HasText moves × (length moves ≤ MOST_MOVES))
 list_written q b s (searches, tails, is) =
     if_some (λ moves. IsGoodList q.game b moves × IsListOf q.game b searches tails moves) (λ moves. All HasText moves × (length moves ≤ MOST_MOVES)) s.list
     (λ moves good. (good.0.written, good.0.few)) is.list

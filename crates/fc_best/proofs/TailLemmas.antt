@@ -12,7 +12,7 @@ use Rattle.fc_moves.specs.Run.{Run, Wins}
 use Rattle.fc_moves.specs.Step.{Step, Allows}
 use Rattle.fc_moves.proofs.StepLemmas.{step_once}
 use Rattle.fc_classes.proofs.PathLemmas.{run_on}
-use Rattle.fc_methods.specs.Method.{Asked}
+use Rattle.fc_methods.specs.Method.{QuestionData}
 use Rattle.fc_search.specs.Search.{State}
 use Rattle.fc_best.specs.declared.attempts.Attempt.{Attempt}
 use Rattle.fc_best.specs.declared.tails.Tail.{Tail}
@@ -115,7 +115,7 @@ tail_made g b n limit ended all front end (Some moves) good same long run tail (
       },
     )
 
-pub is_tail : (q : Asked) (b c : Board) (n limit : ℕ) (all front : List Move) (attempt : Attempt) (made : Option (List Move))
+pub is_tail : (q : QuestionData) (b c : Board) (n limit : ℕ) (all front : List Move) (attempt : Attempt) (made : Option (List Move))
     → IsGoodList q.game b all → front ≡ take n all → n + limit ≡ length all → Run q.game b front c
     → IsAttempt q q.method.bound c (Some limit) attempt → IsWithEnd front attempt.list limit made
     → (gave : Bool) (far : Progress) → IsTail q b all (record { list = made; stored = attempt.stored; has_given_up = gave; far = far })
@@ -155,11 +155,11 @@ list_with g b ended searches tails all moves of is =
 there : {X : Type 0} (o : Option X) (x : X) → o ≡ Some x → o ≡ None → ⊥
 there o x is none = absurd (cc)
 
-pub tail_rises : (q : Asked) (b : Board) (old : Standing) (tail : Tail) (list : Option (List Move)) (far : Progress) → Stands q b old
+pub tail_rises : (q : QuestionData) (b : Board) (old : Standing) (tail : Tail) (list : Option (List Move)) (far : Progress) → Stands q b old
     → IsTailFor q b old tail → IsShorter tail.list old.list list → IsAfter tail.far None (limit_of list) far → IsNoWorse (Far old.far) (Far far)
 tail_rises q b old tail list far stands is short after = after_rises q b old tail.list list tail.far far None stands is.far short after
 
-pub tail_stands : (q : Asked) (b : Board) (old : Standing) (tail : Tail) (list : Option (List Move)) (new : Progress) → Stands q b old
+pub tail_stands : (q : QuestionData) (b : Board) (old : Standing) (tail : Tail) (list : Option (List Move)) (new : Progress) → Stands q b old
     → IsTailFor q b old tail → tail.stored + 1 ≤ old.left → IsShorter tail.list old.list list → IsAfter tail.far None (limit_of list) new
     → Stands q b (record {
       list = list;
@@ -201,7 +201,7 @@ tail_stands q b old tail list new (searches, tails, was) found room short after 
     )
 
 -- before the first search nothing is stored
-pub nothing_stands : (q : Asked) (b : Board) (left : ℕ) (has_table : Bool) (far : Progress) → left ≡ q.method.strategy.budget
+pub nothing_stands : (q : QuestionData) (b : Board) (left : ℕ) (has_table : Bool) (far : Progress) → left ≡ q.method.strategy.budget
     → IsFirst left far → Stands q b (record { list = None; shown = None; left = left; given_up = None; has_table = has_table; open_share = 0; far = far })
 nothing_stands q b left has_table far whole first = (
   [],
@@ -223,10 +223,10 @@ nothing_stands q b left has_table far whole first = (
 )
 
 -- after a search for a tail something is left
-pub tail_left : (q : Asked) (b : Board) (old : Standing) (rest : ℕ) (tail : Tail) → IsTailFor q b old tail → rest + tail.stored ≡ old.left → 1 ≤ rest
+pub tail_left : (q : QuestionData) (b : Board) (old : Standing) (rest : ℕ) (tail : Tail) → IsTailFor q b old tail → rest + tail.stored ≡ old.left → 1 ≤ rest
 tail_left q b old rest tail is sum = let room = is.is.room in let most = is.most in omega (arith, most, room, sum)
 
 -- a search for a tail that was made is one
-pub found_tail : (q : Asked) (b : Board) (standing : Standing) (told : Option Tail) (tail : Tail) → told ≡ Some tail
+pub found_tail : (q : QuestionData) (b : Board) (standing : Standing) (told : Option Tail) (tail : Tail) → told ≡ Some tail
     → IfSome told (IsTailFor q b standing) → IsTailFor q b standing tail
 found_tail q b standing told tail same is = subst (λ o. IfSome o (IsTailFor q b standing)) same is

@@ -8,12 +8,12 @@ use Rattle.fc_answers.specs.Verdict.{CanBeWritten, HasFewMoves}
 use Rattle.fc_answers.specs.declared.answers.Answer.{Answer}
 use Rattle.fc_answers.specs.declared.answers.Verdict.{Verdict}
 use Rattle.fc_answers.specs.declared.answers.Verdict.TheVariants.{Shortest, Won, CannotWin, GaveUp}
-use Rattle.fc_methods.specs.Method.{Asked}
+use Rattle.fc_methods.specs.Method.{QuestionData}
 use Rattle.fc_methods.specs.declared.methods.Sought.{Sought}
 use Rattle.fc_methods.specs.declared.methods.Sought.TheVariants.{ByMethod, Best}
 use Rattle.fc_search.specs.Problem.{Problem, problem_of}
 use Rattle.fc_search.specs.Search.{IsRunToEnd, IsVerdict}
-use Rattle.fc_search.specs.Watch.{Heard, HearsAll, HearsFar, IsHeardAtMost, IsHeardToEnd}
+use Rattle.fc_search.specs.Watch.{Report, HearsAll, HearsFar, IsHeardAtMost, IsHeardToEnd}
 use Rattle.fc_search.specs.declared.listeners.Progress.{Progress}
 use Rattle.fc_best.specs.Best.{IsBestVerdict}
 use Rattle.fc_best.specs.Watch.{HearsToEnd, HearsTold}
@@ -24,12 +24,12 @@ pub record IsDecided (p : Problem) (verdict : Verdict) : Type 0 where
   pub ran : IsRunToEnd p verdict
 
 -- a verdict is what was sought of a board: that of a search by the question's method, or a best one
-abbrev pub IsSought : Sought → Asked → Board → Verdict → Type 0
+abbrev pub IsSought : Sought → QuestionData → Board → Verdict → Type 0
 IsSought ByMethod q b verdict = IsDecided (problem_of q b) verdict
 IsSought Best q b verdict = IsBestVerdict q b verdict
 
 -- a verdict answers a question for a board
-abbrev pub IsVerdictFor : Asked → Board → Verdict → Type 0
+abbrev pub IsVerdictFor : QuestionData → Board → Verdict → Type 0
 IsVerdictFor q b verdict = IsSought q.sought q b verdict
 
 -- the list that a verdict tells, if it tells one, wins
@@ -48,13 +48,13 @@ pub record IsCertifiable (p : Problem) (answer : Answer) : Type 0 where
   pub backed : IsBacked p.game p.start answer
   pub searched : IsSearchedBy p.method.rule p.method.bound p.method.strategy.budget answer
 
-module _ {L : Type 0} (hears : L → Heard → L → Type 0) where
+module _ {L : Type 0} (hears : L → Report → L → Type 0) where
   -- a listener hears of the search by the method, or of the searches for a best answer
-  abbrev pub HearsOfThem : Sought → Asked → Board → L → L → Type 0
+  abbrev pub HearsOfThem : Sought → QuestionData → Board → L → L → Type 0
   HearsOfThem ByMethod q b old new = (heard : List Progress) × HearsAll (HearsFar hears) old heard new × IsHeardAtMost (problem_of q b) heard
   HearsOfThem Best q b old new = HearsTold hears q b old new
 
   -- it hears of them to their end, from which this is the verdict
-  abbrev pub HearsVerdict : Sought → Asked → Board → Verdict → L → L → Type 0
+  abbrev pub HearsVerdict : Sought → QuestionData → Board → Verdict → L → L → Type 0
   HearsVerdict ByMethod q b verdict old new = (heard : List Progress) × HearsAll (HearsFar hears) old heard new × IsHeardToEnd (problem_of q b) heard verdict
   HearsVerdict Best q b verdict old new = HearsToEnd hears q b verdict old new

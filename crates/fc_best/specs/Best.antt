@@ -15,7 +15,7 @@ use Rattle.fc_answers.specs.Verdict.{CanBeWritten, HasFewMoves}
 use Rattle.fc_best_first.specs.Search.{reply_of}
 use Rattle.fc_best_first.specs.declared.searches.Step.TheVariants.{Done}
 use Rattle.fc_best_first.specs.declared.turns.Status.TheVariants as status
-use Rattle.fc_methods.specs.Method.{Asked}
+use Rattle.fc_methods.specs.Method.{QuestionData}
 use Rattle.fc_search.specs.Need.{NeedsMore}
 use Rattle.fc_search.specs.Search.{HasRun, State}
 use Rattle.fc_search.specs.Shown.{HasFound, HasShown}
@@ -38,11 +38,11 @@ pub record HasEnded (ended : State) : Type 0 where
   pub done : reply_of ended.status ≡ Ok Done
 
 -- a search of the question goes by its bound, or by the plain one
-abbrev pub IsBoundOf : Asked → BoundKind → Type 0
+abbrev pub IsBoundOf : QuestionData → BoundKind → Type 0
 IsBoundOf q kind = (kind ≡ q.method.bound) ⊎ (kind ≡ Plain)
 
 -- it is one from the board by the question's game and home rule, and by its bound or the plain one, which ran to its end
-pub record IsOfQuestion (q : Asked) (b : Board) (ended : State) : Type 0 where
+pub record IsOfQuestion (q : QuestionData) (b : Board) (ended : State) : Type 0 where
   pub game : ended.problem.game ≡ q.game
   pub start : ended.problem.start ≡ b
   pub rule : ended.problem.method.rule ≡ q.method.rule
@@ -50,7 +50,7 @@ pub record IsOfQuestion (q : Asked) (b : Board) (ended : State) : Type 0 where
   pub over : HasEnded ended
 
 -- it is one from a board that can be reached from the board, by the question's game, home rule and bound, which ran to its end
-pub record IsOnTheWay (q : Asked) (b : Board) (ended : State) : Type 0 where
+pub record IsOnTheWay (q : QuestionData) (b : Board) (ended : State) : Type 0 where
   pub game : ended.problem.game ≡ q.game
   pub start : CanReach q.game b ended.problem.start
   pub rule : ended.problem.method.rule ≡ q.method.rule
@@ -76,7 +76,7 @@ pub data IsListOf (g : GameRules) (b : Board) (searches tails : List State) : Li
       → IsListOf g b searches tails moves
 
 -- one of the searches, which goes by the question's bound, shows that no list that wins has fewer moves than so many
-pub record IsFloorOf (q : Asked) (searches : List State) (floor : ℕ) : Type 0 where
+pub record IsFloorOf (q : QuestionData) (searches : List State) (floor : ℕ) : Type 0 where
   pub one : State
   pub of_these : Contains searches one
   pub bound : one.problem.method.bound ≡ q.method.bound
@@ -102,7 +102,7 @@ pub record HaveGivenUp (searches : List State) (told : ℕ) : Type 0 where
 
 -- what the verdict rests on: a list, on the searches that found it and its tails; its floor, or that none is shorter, on one that
 -- shows it; that none wins, on one that shows that; giving up, that each of those from the board did
-abbrev pub RestsOn : Asked → Board → List State → List State → Verdict → Type 0
+abbrev pub RestsOn : QuestionData → Board → List State → List State → Verdict → Type 0
 RestsOn q b searches tails (Shortest moves) = IsListOf q.game b searches tails moves × IsFloorOf q searches (length moves)
 RestsOn q b searches tails (Won moves floor) = IsListOf q.game b searches tails moves × IsFloorOf q searches floor
 RestsOn q b searches tails CannotWin = IsLostBy searches
@@ -110,7 +110,7 @@ RestsOn q b searches tails (GaveUp told) = HaveGivenUp searches told
 
 -- the verdict rests on searches of the question from the board, and on others from boards on the way, for shorter tails of a list;
 -- they store no more classes than the budget, all told
-pub record IsOfSearches (q : Asked) (b : Board) (verdict : Verdict) : Type 0 where
+pub record IsOfSearches (q : QuestionData) (b : Board) (verdict : Verdict) : Type 0 where
   pub searches : List State
   pub tails : List State
   pub asked : All (IsOfQuestion q b) searches
@@ -119,7 +119,7 @@ pub record IsOfSearches (q : Asked) (b : Board) (verdict : Verdict) : Type 0 whe
   pub rests : RestsOn q b searches tails verdict
 
 -- all that a best verdict is: right, of searches within the budget, such as can be written, and of few moves
-pub record IsBestVerdict (q : Asked) (b : Board) (verdict : Verdict) : Type 0 where
+pub record IsBestVerdict (q : QuestionData) (b : Board) (verdict : Verdict) : Type 0 where
   pub right : IsBest q.game b q.method.strategy.budget verdict
   pub searched : IsOfSearches q b verdict
   pub written : CanBeWritten verdict
@@ -127,7 +127,7 @@ pub record IsBestVerdict (q : Asked) (b : Board) (verdict : Verdict) : Type 0 wh
 
 -- all that the best answer is: a best verdict, backed by its table, where one was made, which is of the question's home rule and
 -- bound
-pub record IsBestAnswer (q : Asked) (b : Board) (answer : Answer) : Type 0 where
+pub record IsBestAnswer (q : QuestionData) (b : Board) (answer : Answer) : Type 0 where
   pub told : IsBestVerdict q b answer.verdict
   pub backed : IfSome answer.table (IsBackedBy q.game b answer.verdict)
   pub tabled : IsSearchedBy q.method.rule q.method.bound q.method.strategy.budget answer

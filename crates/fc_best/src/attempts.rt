@@ -4,7 +4,7 @@ ghost use Rattle.fc_position.specs.Board.{Board};
 ghost use Rattle.fc_position.specs.Position.{Fits};
 ghost use Rattle.std.specs.Prelude.{length, ◌≡◌, ◌≤◌, ◌*◌, ◌/◌, ℕ, List, Option, None, IfOk, IfSome, IsSome, IsTrue, max, min};
 ghost use Rattle.fc_best_first.specs.Search.{reply_of};
-ghost use Rattle.fc_methods.specs.Method.{Asked};
+ghost use Rattle.fc_methods.specs.Method.{QuestionData};
 ghost use Rattle.fc_search.specs.Problem.{problem_below};
 ghost use Rattle.fc_search.specs.Search.{HasRun};
 ghost use Rattle.fc_search.specs.Shown.{BacksShown, HasShown};
@@ -13,7 +13,7 @@ ghost use Rattle.fc_search.specs.declared.listeners.Progress.{Progress};
 ghost use Rattle.fc_best_first.specs.Limits.{Ratio};
 ghost use Rattle.fc_bound.specs.declared.kinds.BoundKind.TheVariants.{Plain};
 ghost use Rattle.fc_best.specs.inner.Attempt.{IsAttempt, IsShownAt, Raises, ShowsNone};
-ghost use Rattle.fc_best.specs.inner.Standing.{looked_with, lost_by, with_share};
+ghost use Rattle.fc_best.specs.inner.Standing.{look_with, loss_by, with_share};
 
 use fc_answers::{MoveList, Table};
 use fc_best_first::Step;
@@ -107,8 +107,8 @@ impl Attempt {
 
     // What a look showed, as of a question by this kind of bound: that none wins, or nothing.
     pub(crate) fn by_bound(self, bound: BoundKind) -> Self
-        ensures right { (q : Asked) (b : Board) (weight : Ratio) (share : ℕ) → bound ≡ q.method.bound
-            → IsAttempt (looked_with q weight share) Plain b None self → IsAttempt (with_share q weight share) Plain b None result }
+        ensures right { (q : QuestionData) (b : Board) (weight : Ratio) (share : ℕ) → bound ≡ q.method.bound
+            → IsAttempt (look_with q weight share) Plain b None self → IsAttempt (with_share q weight share) Plain b None result }
         ensures raised { (least : Option ℕ) → IfSome result.shown (λ end. Raises least end.floor) }
         ensures tabled { IfSome self.shown (λ end. IsSome end.table) → IfSome result.shown (λ end. IsSome end.table) }
         ensures list { result.list ≡ self.list }
@@ -144,7 +144,7 @@ fn attempt_of<F: Frontier + Drop, G: Game + Drop>(
     aim: Aim,
 ) -> Result<Attempt, AllocError>
     requires done { reply_of search.now.status ≡ Ok Step.Done }
-    ensures right { (q : Asked) (b : Board) (limit : Option ℕ) → search.now.problem ≡ problem_below q b limit
+    ensures right { (q : QuestionData) (b : Board) (limit : Option ℕ) → search.now.problem ≡ problem_below q b limit
         → HasRun (problem_below q b limit) search.now.store search.now.status → IfOk result (IsAttempt q q.method.bound b limit) }
     ensures raised { IfOk result (λ attempt. IfSome attempt.shown (λ end. Raises aim.least end.floor)) }
     ensures first { aim.least ≡ None → IfOk result (λ attempt. IsSome attempt.shown) }
@@ -198,7 +198,7 @@ fn raises(least: Option<u32>, floor: Option<u32>) -> bool
 
 // What a look showed, where that is that none wins, with its table under this kind of bound.
 fn lost_by(bound: BoundKind, shown: Option<Shown>) -> Option<Shown>
-    ensures value { result ≡ lost_by bound shown }
+    ensures value { result ≡ loss_by bound shown }
 {
     let Shown { floor, table } = shown?;
     match (floor, table) {

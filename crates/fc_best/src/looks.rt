@@ -3,7 +3,7 @@
 ghost use Rattle.fc_position.specs.Position.{Fits};
 ghost use Rattle.std.specs.Prelude.{◌≡◌, ◌+◌, ◌≤◌, IfOk, IfErr};
 ghost use Rattle.fc_best.specs.inner.Attempt.{ShowsNone};
-ghost use Rattle.fc_best.specs.inner.Standing.{looked_with, Stands};
+ghost use Rattle.fc_best.specs.inner.Standing.{look_with, Stands};
 ghost use Rattle.fc_best.specs.inner.Watch.{HearsOn, HearsSome};
 
 use crate::attempts::Aim;
@@ -54,7 +54,7 @@ impl Standing {
 
 // The question by the plain bound and full expansion, with the weight and the budget of a plan.
 fn looked_with<G: Game + Drop>(question: &Question<G>, plan: Plan) -> Question<G>
-    ensures value { result ≡ looked_with question.now plan.weight plan.budget }
+    ensures value { result ≡ look_with question.now plan.weight plan.budget }
 {
     let method = Method {
         rule: question.method().rule,

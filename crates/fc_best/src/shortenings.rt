@@ -4,7 +4,7 @@ ghost use Rattle.std.specs.Prelude.{◌≡◌, ◌+◌, ◌≤◌, IfOk, IfErr, 
 ghost use Rattle.fc_answers.specs.declared.answers.TheConstants.{MOST_MOVES};
 ghost use Rattle.fc_position.specs.Board.{Board};
 ghost use Rattle.fc_position.specs.Position.{Fits};
-ghost use Rattle.fc_methods.specs.Method.{Asked};
+ghost use Rattle.fc_methods.specs.Method.{QuestionData};
 ghost use Rattle.fc_best.specs.Watch.{IsNoWorse};
 ghost use Rattle.fc_search.specs.Watch.{Far};
 ghost use Rattle.fc_best.specs.inner.Standing.{limit_of, Stands};
@@ -109,8 +109,8 @@ impl Standing {
         requires few { IfSome self.list (λ moves. length moves ≤ MOST_MOVES) }
         requires few_found { IfSome tail.list (λ moves. length moves ≤ MOST_MOVES) }
         requires room { tail.stored + 1 ≤ self.left }
-        ensures stands { (q : Asked) (b : Board) → Stands q b self → IsTailFor q b self tail → Stands q b result }
-        ensures rises { (q : Asked) (b : Board) → Stands q b self → IsTailFor q b self tail → IsNoWorse (Far self.far) (Far result.far) }
+        ensures stands { (q : QuestionData) (b : Board) → Stands q b self → IsTailFor q b self tail → Stands q b result }
+        ensures rises { (q : QuestionData) (b : Board) → Stands q b self → IsTailFor q b self tail → IsNoWorse (Far self.far) (Far result.far) }
         ensures same { limit_of result.list ≡ limit_of self.list → result.list ≡ self.list }
         ensures left { result.left + tail.stored ≡ self.left }
         ensures has_table { result.has_table ≡ self.has_table }

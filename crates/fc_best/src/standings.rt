@@ -6,13 +6,13 @@ ghost use Rattle.std.specs.Prelude.{◌≡◌, ◌+◌, ◌<◌, ◌≤◌, ℕ,
 ghost use Rattle.fc_answers.specs.Answer.{IsBacked};
 ghost use Rattle.fc_answers.specs.declared.answers.TheConstants.{MOST_MOVES};
 ghost use Rattle.fc_best_first.specs.Limits.{Ratio};
-ghost use Rattle.fc_methods.specs.Method.{Asked};
+ghost use Rattle.fc_methods.specs.Method.{QuestionData};
 ghost use Rattle.fc_bound.specs.declared.kinds.BoundKind.{BoundKind};
 ghost use Rattle.fc_best.specs.Best.{IsBestAnswer};
 ghost use Rattle.fc_best.specs.Watch.{IsNoWorse, IsToldOf, list_told};
 ghost use Rattle.fc_search.specs.Watch.{Far};
-ghost use Rattle.fc_best.specs.inner.Attempt.{floor_of, IsAttempt, Raises, ShowsNone};
-ghost use Rattle.fc_best.specs.inner.Standing.{greater, limit_of, newest, with_share, IsShorter, Stands};
+ghost use Rattle.fc_best.specs.inner.Attempt.{floor_of, Raises, ShowsNone};
+ghost use Rattle.fc_best.specs.inner.Standing.{greater, limit_of, newest, IsNextAttempt, IsShorter, Stands};
 ghost use Rattle.fc_best.specs.inner.Watch.{HearsOn, HearsSome, IsFurther, list_in};
 
 use crate::attempts::{Aim, Attempt, Shown};
@@ -49,7 +49,7 @@ pub(crate) struct Standing {
 impl Standing {
     // Before the first search.
     pub(crate) fn new(budget: GreatBudget, has_table: bool) -> Self
-        ensures stands { (q : Asked) (b : Board) → q.method.strategy.budget ≡ budget → Stands q b result }
+        ensures stands { (q : QuestionData) (b : Board) → q.method.strategy.budget ≡ budget → Stands q b result }
         ensures none { result.list ≡ None }
         ensures left { 1 ≤ result.left }
         ensures has_table { result.has_table ≡ has_table }
@@ -231,10 +231,9 @@ impl Standing {
         requires room { attempt.stored ≤ self.left }
         requires raised { IfSome attempt.shown (λ end. Raises (floor_of self.shown) end.floor) }
         requires tabled { IsTrue self.has_table → IfSome attempt.shown (λ end. IsSome end.table) }
-        ensures stands { (q : Asked) (kind : BoundKind) (b : Board) (weight : Ratio) (share : ℕ) → Stands q b self → share ≤ self.left
-            → IsAttempt (with_share q weight share) kind b (limit_of self.list) attempt
-            → IsFurther self.far far → Stands q b result }
-        ensures rises { (q : Asked) (b : Board) → Stands q b self → IsFurther self.far far → IsNoWorse (Far self.far) (Far result.far) }
+        ensures stands { (q : QuestionData) (kind : BoundKind) (b : Board) (weight : Ratio) (share : ℕ) → Stands q b self → share ≤ self.left
+            → IsNextAttempt q (weight, share) kind b self attempt → IsFurther self.far far → Stands q b result }
+        ensures rises { (q : QuestionData) (b : Board) → Stands q b self → IsFurther self.far far → IsNoWorse (Far self.far) (Far result.far) }
         ensures same { limit_of result.list ≡ limit_of self.list → result.list ≡ self.list }
         ensures left { result.left + attempt.stored ≡ self.left }
         ensures shown { result.shown ≡ newest attempt.shown self.shown }
@@ -271,10 +270,10 @@ impl Standing {
     // The answer, after the last search.
     pub(crate) fn into_answer(self) -> Answer
         requires shown { IsSome self.shown }
-        ensures best { (q : Asked) (b : Board) → Stands q b self → IsBestAnswer q b result }
-        ensures backed { (q : Asked) (b : Board) → Stands q b self → IsTrue self.has_table → IsBacked q.game b result }
-        ensures told { (q : Asked) (b : Board) → Stands q b self → IsToldOf result.verdict self.far }
-        ensures listed { (q : Asked) (b : Board) → Stands q b self → list_in self ≡ list_told result.verdict }
+        ensures best { (q : QuestionData) (b : Board) → Stands q b self → IsBestAnswer q b result }
+        ensures backed { (q : QuestionData) (b : Board) → Stands q b self → IsTrue self.has_table → IsBacked q.game b result }
+        ensures told { (q : QuestionData) (b : Board) → Stands q b self → IsToldOf result.verdict self.far }
+        ensures listed { (q : QuestionData) (b : Board) → Stands q b self → list_in self ≡ list_told result.verdict }
     {
         let Standing {
             list,

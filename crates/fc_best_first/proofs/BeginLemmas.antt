@@ -11,9 +11,9 @@ use Rattle.fc_best_first.specs.declared.books.Offered.TheVariants.{Known, Lowere
 use Rattle.fc_best_first.specs.declared.strategies.Expansion.{Expansion}
 use Rattle.fc_best_first.specs.declared.strategies.Expansion.TheVariants as expansion
 use Rattle.fc_best_first.specs.declared.strategies.Strategy.{Strategy}
-use Rattle.fc_best_first.specs.Graph.{Task, Reached, IsLawful}
+use Rattle.fc_best_first.specs.Graph.{Task, IsReached, IsLawful}
 use Rattle.fc_best_first.specs.Limits.{ReachesLimit, weigh}
-use Rattle.fc_best_first.specs.Store.{Store, Candidate, IsOpening, IsStored, Stores, bound_at, bound_in, opens_at, weighed}
+use Rattle.fc_best_first.specs.Store.{Store, Candidate, IsOpening, IsStored, Stores, bound_at, bound_in, opens_at, weighed_cost}
 use Rattle.fc_best_first.specs.Kept.{AreNoted, Comes, IsKept, IsNeeded, IsOpenAt, IsOpenOrExpanded, f_of}
 use Rattle.fc_best_first.specs.Shown.{IsFloor}
 use Rattle.fc_best_first.proofs.KeptLemmas.{added_there, added_cases, open_under}
@@ -21,7 +21,7 @@ use Rattle.fc_best_first.proofs.KeptLemmas.{added_there, added_cases, open_under
 -- what storing the first key leaves
 pub first_stored : {K : Type 0} (strategy : Strategy) (empty new : Store K) (offer : Candidate K) (o : Offered K)
     → empty.stored ≡ [] → empty.waiting ≡ [] → empty.openings ≡ [] → 1 ≤ strategy.budget → Stores strategy empty new offer o
-    → (new.stored ≡ (offer.key, offer.mark) ∷ []) × Adds [] new.waiting (opens_at (weighed strategy offer.mark) offer.opening, 0)
+    → (new.stored ≡ (offer.key, offer.mark) ∷ []) × Adds [] new.waiting (opens_at (weighed_cost strategy offer.mark) offer.opening, 0)
     × (new.openings ≡ offer.opening ∷ [])
 first_stored strategy empty new offer Known none quiet unnoted some_room h = absurd h
 first_stored strategy empty new offer Lowered none quiet unnoted some_room h = absurd h
@@ -29,8 +29,8 @@ first_stored strategy empty new offer (PutOff f) none quiet unnoted some_room h 
 first_stored strategy empty new offer Past none quiet unnoted some_room h = absurd h
 first_stored strategy empty new offer Added none quiet unnoted some_room (lt, stored, opened, noted) = (
   stored ∙ ap (λ es. es ++ (offer.key, offer.mark) ∷ []) none,
-  subst (λ es. Adds [] new.waiting (opens_at (weighed strategy offer.mark) offer.opening, length es)) none
-      (subst (λ ps. Adds ps new.waiting (opens_at (weighed strategy offer.mark) offer.opening, length empty.stored)) quiet opened),
+  subst (λ es. Adds [] new.waiting (opens_at (weighed_cost strategy offer.mark) offer.opening, length es)) none
+      (subst (λ ps. Adds ps new.waiting (opens_at (weighed_cost strategy offer.mark) offer.opening, length empty.stored)) quiet opened),
   noted ∙ ap (λ os. os ++ offer.opening ∷ []) unnoted,
 )
 first_stored strategy empty new offer (Full y) none quiet unnoted some_room (same, full, kept) =
@@ -38,7 +38,7 @@ first_stored strategy empty new offer (Full y) none quiet unnoted some_room (sam
 
 module _ {K : Type 0} (task : Task K) (s : Store K) (x : K) (e : Mark) (stored : s.stored ≡ (x, e) ∷ [])
     (opening : Opening) (opens : IsOpening task.graph task.strategy.weight x opening)
-    (opened : Adds [] s.waiting (opens_at (weighed task.strategy e) opening, 0)) (notes : s.openings ≡ opening ∷ []) where
+    (opened : Adds [] s.waiting (opens_at (weighed_cost task.strategy e) opening, 0)) (notes : s.openings ≡ opening ∷ []) where
   first_alone : (i : ℕ) (y : K) (n : Mark) → IsStored s i y n → (i ≡ 0) × (x ≡ y) × (e ≡ n)
   first_alone i y n at = by i (subst (λ es. slice_get es i ≡ Some (y, n)) stored at)
     where
@@ -64,12 +64,12 @@ module _ {K : Type 0} (task : Task K) (s : Store K) (x : K) (e : Mark) (stored :
   first_bound : bound_at s 0 ≡ opening.bound
   first_bound = ap (λ os. bound_in (slice_get os 0)) notes
 
-  first_f : f_of task s 0 e ≡ opens_at (weighed task.strategy e) opening
+  first_f : f_of task s 0 e ≡ opens_at (weighed_cost task.strategy e) opening
   first_f = ap (λ b. weigh task.strategy.weight e.cost b) first_bound ∙ ap (λ n. task.strategy.weight.parts * e.cost + n) (sym opens.0)
 
-  first_open : IsOpenAt s 0 (weighed task.strategy e) (f_of task s 0 e)
-  first_open = subst (IsOpenAt s 0 (weighed task.strategy e)) (sym first_f) (
-    added_there [] s.waiting (opens_at (weighed task.strategy e) opening, 0) opened,
+  first_open : IsOpenAt s 0 (weighed_cost task.strategy e) (f_of task s 0 e)
+  first_open = subst (IsOpenAt s 0 (weighed_cost task.strategy e)) (sym first_f) (
+    added_there [] s.waiting (opens_at (weighed_cost task.strategy e) opening, 0) opened,
     (opening, ap (λ os. slice_get os 0) notes, refl),
   )
 
@@ -95,7 +95,7 @@ module _ {K : Type 0} (task : Task K) (s : Store K) (x : K) (e : Mark) (stored :
     begins_under n wins = omega (arith, begins_least n wins, lawful.shown x opening.bound opening.note opens.1)
 
     -- so none, weighed as a bound is, is below what it is open at
-    pub begins_floor : IsFloor task.graph task.strategy.weight (opens_at (weighed task.strategy e) opening)
+    pub begins_floor : IsFloor task.graph task.strategy.weight (opens_at (weighed_cost task.strategy e) opening)
     begins_floor n wins = omega (arith, open_under task.strategy.weight e.cost opening.bound n heavy (begins_under n wins), opens.0)
 
     first_needed : (expansion : Expansion) → IsNeeded expansion task.graph task.strategy.weight x
@@ -114,7 +114,7 @@ module _ {K : Type 0} (task : Task K) (s : Store K) (x : K) (e : Mark) (stored :
           sound = record {
             room = (let size = ap length stored in omega (arith, size, some_room));
             once = λ i j y m n a b. (first_alone i y m a).0 ∙ sym (first_alone j y n b).0;
-            reached = first_each (λ i y n. Reached task.graph y n.cost) (0, start);
+            reached = first_each (λ i y n. IsReached task.graph y n.cost) (0, start);
             low = first_each (λ i y n. n.cost + task.graph.spare y ≤ i + 1000) low;
             comes = first_each (Comes task.graph s) (inl (own, start));
             needed = first_each (λ i y n. IsNeeded task.strategy.expansion task.graph task.strategy.weight y)
@@ -123,18 +123,18 @@ module _ {K : Type 0} (task : Task K) (s : Store K) (x : K) (e : Mark) (stored :
             pairs = λ h i there. ⊎_elim
                 (λ same.
                 let here : IsStored s i x e = subst (λ k. IsStored s k x e) (ap (λ p. p.1) same) first_here in
-                let level : opens_at (weighed task.strategy e) opening ≡ h = ap (λ p. p.0) same in
+                let level : opens_at (weighed_cost task.strategy e) opening ≡ h = ap (λ p. p.0) same in
                 let at_i : f_of task s i e ≡ f_of task s 0 e = ap (λ k. f_of task s k e) (sym (ap (λ p. p.1) same)) in
                 (x, e, here, omega (arith, level, at_i, first_f)))
                 (λ none. absurd (omega (arith, none.1)))
-                (added_cases [] s.waiting (opens_at (weighed task.strategy e) opening, 0) (h, i) opened there);
+                (added_cases [] s.waiting (opens_at (weighed_cost task.strategy e) opening, 0) (h, i) opened there);
             noted = first_noted;
             under = first_each (λ i y m. (n : ℕ) → task.graph.wins n → ReachesLimit task.limit n → m.cost + bound_at s i ≤ n)
                 (λ n wins reach. omega (arith, begins_under n wins, first_bound));
             near = λ h i there. ⊎_elim
                 (λ same. λ n wins reach. subst (λ k. k ≤ task.strategy.weight.times * n) (ap (λ p. p.0) same) (begins_floor n wins))
                 (λ none. absurd (omega (arith, none.1)))
-                (added_cases [] s.waiting (opens_at (weighed task.strategy e) opening, 0) (h, i) opened there);
+                (added_cases [] s.waiting (opens_at (weighed_cost task.strategy e) opening, 0) (h, i) opened there);
           };
           settled = first_each (IsOpenOrExpanded task s) (inl first_open);
         }

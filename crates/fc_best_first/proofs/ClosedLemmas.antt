@@ -11,9 +11,9 @@ use Rattle.fc_best_first.specs.declared.books.Mark.{Mark}
 use Rattle.fc_best_first.specs.declared.books.Opening.{Opening}
 use Rattle.fc_best_first.specs.declared.strategies.Expansion.{Expansion}
 use Rattle.fc_best_first.specs.declared.strategies.Expansion.TheVariants.{Full, Partial}
-use Rattle.fc_best_first.specs.Graph.{Graph, Task, Reached, IsLawful, IsClosedInside, Lists}
+use Rattle.fc_best_first.specs.Graph.{Graph, Task, IsReached, IsLawful, IsClosedInside, Lists}
 use Rattle.fc_best_first.specs.Limits.{IsEven, IsUpTo, IsWithinLimit, Ratio, ReachesLimit, weigh}
-use Rattle.fc_best_first.specs.Store.{Store, IsStored, IsTaken, bound_at, bound_in, opens_at, weighed}
+use Rattle.fc_best_first.specs.Store.{Store, IsStored, IsTaken, bound_at, bound_in, opens_at, weighed_cost}
 use Rattle.fc_best_first.specs.Turn.{IsStale, TakesFloor}
 use Rattle.fc_best_first.specs.Kept.{AreNoted, HasAt, IsWhereOpen, IsCoveredBelow, IsDone, IsExpanded, IsExpandedBelow, IsMet, IsOpenAt, IsOpenLater, IsOpenOrExpanded, IsSound, IsKept, f_of}
 use Rattle.fc_best_first.specs.Shown.{IsFloor}
@@ -57,7 +57,7 @@ limit_within (Some limit) times f n within reach =
 
 -- where a key with this mark is open
 abbrev pub IsAt : {K : Type 0} → Task K → Store K → ℕ → Mark → ℕ → Type 0
-IsAt task s number mark f = IsWhereOpen s number (weighed task.strategy mark) f
+IsAt task s number mark f = IsWhereOpen s number (weighed_cost task.strategy mark) f
 
 module _ {K : Type 0} where
   -- an older pair isn't where its key is open
@@ -189,7 +189,7 @@ module _ {K : Type 0} where
   kept_later Full task old new p i x m kept noted taken other later = later
   kept_later Partial task old new p i x m kept noted taken other (h, is_open, below) = (
     h,
-    kept_open old new p i (weighed task.strategy m) h noted taken (other h is_open.1) is_open,
+    kept_open old new p i (weighed_cost task.strategy m) h noted taken (other h is_open.1) is_open,
     kept_below task old new x m.cost h kept below,
   )
 
@@ -267,8 +267,8 @@ module _ {K : Type 0} (task : Task K) where
       → (j : ℕ) (y : K) (l : Mark) → ((h : ℕ) → IsAt task old j l h → h ≡ f → j ≡ i → ⊥) → IsStored new j y l
       → IsOpenOrExpanded task new j y l
   others_settled old new f i x m kept t j y l other at = elim (kept.settled j y l (kept_back old new j y l t.kept at)) [
-    | inl is_open ↦ inl (subst (IsOpenAt new j (weighed task.strategy l)) (sym (same_f task old new j l t.noted))
-        (kept_open old new (f, i) j (weighed task.strategy l) (f_of task old j l) t.noted t.taken
+    | inl is_open ↦ inl (subst (IsOpenAt new j (weighed_cost task.strategy l)) (sym (same_f task old new j l t.noted))
+        (kept_open old new (f, i) j (weighed_cost task.strategy l) (f_of task old j l) t.noted t.taken
         (other (f_of task old j l) is_open.1) is_open))
     | inr (inl done) ↦ inr (inl (kept_expanded task old new y l.cost t.kept done))
     | inr (inr later) ↦ inr (inr (kept_later task.strategy.expansion task old new (f, i) j y l t.kept t.noted t.taken other later))
@@ -307,7 +307,7 @@ module _ {K : Type 0} (task : Task K) where
       → IsClosedInside task.graph n (rows s)
   closed_inside s n sound done = record {
     reached = λ x d listed. let r = rows_stand s.stored x d listed in
-        subst (Reached task.graph x) r.3 (sound.reached r.0 x r.1 r.2);
+        subst (IsReached task.graph x) r.3 (sound.reached r.0 x r.1 r.2);
     not_won = λ x d listed lt. let r = rows_stand s.stored x d listed in
         (done r.0 x r.1 r.2 (subst (λ c. c + task.graph.bound x < n) (sym r.3) lt)).0;
     starts = λ x d start. inr (has_lists s x d (sound.starts x d start));

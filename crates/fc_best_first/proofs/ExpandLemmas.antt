@@ -10,9 +10,9 @@ use Rattle.fc_best_first.specs.declared.strategies.Expansion.{Expansion}
 use Rattle.fc_best_first.specs.declared.strategies.Expansion.TheVariants.{Full, Partial}
 use Rattle.fc_best_first.specs.declared.turns.Placing.{Placing}
 use Rattle.fc_best_first.specs.declared.turns.Placing.TheVariants.{Whole, Later, NoRoom}
-use Rattle.fc_best_first.specs.Graph.{Graph, Reached, IsLawful, Task}
+use Rattle.fc_best_first.specs.Graph.{Graph, IsReached, IsLawful, Task}
 use Rattle.fc_best_first.specs.Limits.{IsBelowLimit, IsWithinLimit, ReachesLimit, weigh}
-use Rattle.fc_best_first.specs.Store.{Store, Candidate, IsStored, IsOpening, IsOpenedAnew, Admits, Offers, bound_at, bound_in, opens_at, weighed}
+use Rattle.fc_best_first.specs.Store.{Store, Candidate, IsStored, IsOpening, IsOpenedAnew, Admits, Offers, bound_at, bound_in, opens_at, weighed_cost}
 use Rattle.fc_best_first.specs.Turn.{Expands, candidate_of, put_off, work_left}
 use Rattle.fc_best_first.specs.Kept.{AreNoted, HasAt, IsDone, IsMet, IsOpenOrExpanded, IsNeeded, IsWhereOpen, Comes, IsSound, f_of}
 use Rattle.fc_best_first.specs.Shown.{IsFloor, IsGivenUp}
@@ -88,7 +88,7 @@ module _ {K : Type 0} (task : Task K) where
       pub settled : (j : ℕ) (y : K) (l : Mark) → (j ≡ busy → ⊥) → IsStored s j y l → IsOpenOrExpanded task s j y l
       pub stands : IsStored s busy xb mb
       pub noted : bound_at s busy ≡ own
-      pub present : IsWhereOpen s busy (weighed task.strategy mb) taken
+      pub present : IsWhereOpen s busy (weighed_cost task.strategy mb) taken
       pub done : f_of task s busy mb < taken → IsDone task.strategy.expansion task s xb mb.cost taken
 
     -- the child as it is offered
@@ -98,14 +98,14 @@ module _ {K : Type 0} (task : Task K) where
     abbrev IsChild : Child K → Type 0
     IsChild child = task.graph.edge xb child.cost child.key
 
-    child_reached : (s : Store K) (child : Child K) → IsChild child → Doing s → Reached task.graph child.key (mb.cost + child.cost)
+    child_reached : (s : Store K) (child : Child K) → IsChild child → Doing s → IsReached task.graph child.key (mb.cost + child.cost)
     child_reached s child edge d =
         let before = d.sound.reached busy xb mb d.stands in
         (suc before.0, (xb, mb.cost, child.cost, before.1, edge, refl))
 
     child_needed : (expansion : Expansion) (s : Store K) (child : Child K) (opening : Opening) → IsChild child → Doing s
         → IsOpening task.graph task.strategy.weight child.key opening
-        → Admits expansion taken (opens_at (weighed task.strategy (child_offer child opening).mark) opening)
+        → Admits expansion taken (opens_at (weighed_cost task.strategy (child_offer child opening).mark) opening)
         → IsNeeded expansion task.graph task.strategy.weight child.key
     child_needed Full s child opening edge d opens admits =
         inr (xb, mb.cost, child.cost, d.sound.reached busy xb mb d.stands, edge, (own, note, is_shown, λ n wins. omega (arith, floor n wins, high)))
@@ -133,7 +133,7 @@ module _ {K : Type 0} (task : Task K) where
           settled = still_settled task old new child.key e opening i puts opens.0 opens.1 d.sound room reached low comes needed heavy under busy d.settled;
           stands = puts.on busy xb mb other d.stands;
           noted = same ∙ d.noted;
-          present = still_present task.graph old new opening i busy (weighed task.strategy mb) taken puts.notes
+          present = still_present task.graph old new opening i busy (weighed_cost task.strategy mb) taken puts.notes
               d.sound.noted other d.present;
           done = λ lt. still_done task.strategy.weight old new child.key e opening i puts
               task.strategy.expansion task xb mb.cost taken

@@ -9,7 +9,7 @@ use Rattle.fc_best_first.specs.declared.books.Mark.{Mark}
 use Rattle.fc_best_first.specs.declared.strategies.Expansion.{Expansion}
 use Rattle.fc_best_first.specs.declared.strategies.Expansion.TheVariants.{Full, Partial}
 use Rattle.fc_best_first.specs.Graph.{Graph, IsLawful, Task}
-use Rattle.fc_best_first.specs.Store.{Store, IsStored, bound_at, opens_at, weighed}
+use Rattle.fc_best_first.specs.Store.{Store, IsStored, bound_at, opens_at, weighed_cost}
 use Rattle.fc_best_first.specs.Limits.{IsUpTo, ReachesLimit, weigh}
 use Rattle.std.proofs.lemmas.Nat.{mul-le}
 use Rattle.std.proofs.Math.Nat.{mul-le-mul_left}
@@ -209,7 +209,7 @@ module _ {K : Type 0} (task : Task K) (s : Store K) (heavy : task.strategy.weigh
   -- a key that is open at its own f, or later, is covered below what is open
   open_covered : (most floor : ℕ) (i : ℕ) (y : K) (m : Mark) → IsLeastOpen task s most floor → IsUpTo task.limit floor → IsStored s i y m
       → m.cost + bound_at s i < floor → (expansion : Expansion) → expansion ≡ task.strategy.expansion
-      → IsOpenAt s i (weighed task.strategy m) (f_of task s i m) ⊎ IsOpenLater expansion task s i y m
+      → IsOpenAt s i (weighed_cost task.strategy m) (f_of task s i m) ⊎ IsOpenLater expansion task s i y m
       → IsCoveredBelow task.graph s y m.cost floor
   open_covered most floor i y m least up there lt expansion is (inl (waits, at)) =
       under_covered i y m (f_of task s i m) floor up

@@ -16,9 +16,9 @@ use Rattle.fc_best_first.specs.declared.books.Offered.TheVariants.{Added}
 use Rattle.fc_best_first.specs.declared.strategies.Expansion.{Expansion}
 use Rattle.fc_best_first.specs.declared.strategies.Expansion.TheVariants.{Full, Partial}
 use Rattle.fc_best_first.specs.declared.strategies.Strategy.{Strategy}
-use Rattle.fc_best_first.specs.Graph.{Graph, Task, Reached}
+use Rattle.fc_best_first.specs.Graph.{Graph, Task, IsReached}
 use Rattle.fc_best_first.specs.Limits.{Ratio, ReachesLimit, weigh}
-use Rattle.fc_best_first.specs.Store.{Store, Candidate, IsStored, IsNew, IsOpenedAnew, Lowers, Stores, bound_at, bound_in, opens_at, weighed}
+use Rattle.fc_best_first.specs.Store.{Store, Candidate, IsStored, IsNew, IsOpenedAnew, Lowers, Stores, bound_at, bound_in, opens_at, weighed_cost}
 use Rattle.fc_best_first.specs.Turn.{TakesFloor}
 use Rattle.fc_best_first.specs.Kept.{AreNoted, HasAt, IsDone, IsExpanded, IsExpandedBelow, IsMet, IsOpenAt, IsOpenLater, IsOpenOrExpanded, IsNeeded, Comes, IsSound, f_of}
 use Rattle.fc_best_first.proofs.StoreLemmas.{set_here, set_elsewhere, push_here, push_elsewhere, slot_here, slot_elsewhere, length-slot}
@@ -91,7 +91,7 @@ module _ {K : Type 0} (task : Task K) where
       subst (λ n. f_of task old i n ≤ f) both.1 there.3
 
   pub entry_reached : (old new : Store K) (i : ℕ) (x : K) (m : Mark) → IsSound task old → new.stored ≡ old.stored
-      → IsStored new i x m → (d : ℕ) × Reached task.graph x d
+      → IsStored new i x m → (d : ℕ) × IsReached task.graph x d
   entry_reached old new i x m sound kept at = (m.cost, sound.reached i x m (stands_back old new i x m kept at))
 
   pub entry_low : (old new : Store K) (i : ℕ) (x : K) (m : Mark) → IsSound task old → task.strategy.budget ≤ 16000000
@@ -288,14 +288,14 @@ module _ {K : Type 0} where
   still_later Full task old new y e opening i puts noted j x m ne later = later
   still_later Partial task old new y e opening i puts noted j x m ne (f, is_open, below) = (
     f,
-    still_open task.graph old new opening i j (weighed task.strategy m) (opens_at (weighed task.strategy e) opening, i) f puts.opened puts.notes noted ne is_open,
+    still_open task.graph old new opening i j (weighed_cost task.strategy m) (opens_at (weighed_cost task.strategy e) opening, i) f puts.opened puts.notes noted ne is_open,
     still_below task.strategy.weight old new y e opening i puts task x m.cost f below,
   )
 
   module _ (task : Task K) (old new : Store K) (y : K) (e : Mark) (opening : Opening) (i : ℕ)
       (puts : Puts task.strategy.weight old new y e opening i) (is : opening.over ≡ task.strategy.weight.times * opening.bound)
       (shown : task.graph.shown y opening.bound opening.note) (sound : IsSound task old)
-      (room : length new.stored ≤ task.strategy.budget) (reached : Reached task.graph y e.cost) (low : e.cost + task.graph.spare y ≤ i + 1000)
+      (room : length new.stored ≤ task.strategy.budget) (reached : IsReached task.graph y e.cost) (low : e.cost + task.graph.spare y ≤ i + 1000)
       (comes : Comes task.graph old i y e) (needed : IsNeeded task.strategy.expansion task.graph task.strategy.weight y)
       (heavy : task.strategy.weight.parts ≤ task.strategy.weight.times)
       (under : (n : ℕ) → task.graph.wins n → ReachesLimit task.limit n → e.cost + opening.bound ≤ n) where
@@ -334,7 +334,7 @@ module _ {K : Type 0} where
         (cases_eq j i)
 
     -- where it is open
-    own_f : f_of task new i e ≡ opens_at (weighed task.strategy e) opening
+    own_f : f_of task new i e ≡ opens_at (weighed_cost task.strategy e) opening
     own_f = ap (λ b. weigh task.strategy.weight e.cost b) (bound_here task.strategy.weight old new y e opening i puts task.graph sound.noted)
         ∙ ap (λ n. task.strategy.weight.parts * e.cost + n) (sym is)
 
@@ -348,7 +348,7 @@ module _ {K : Type 0} where
     still_sound = record {
       room = room;
       once = once;
-      reached = each (λ j x m. Reached task.graph x m.cost) reached sound.reached;
+      reached = each (λ j x m. IsReached task.graph x m.cost) reached sound.reached;
       low = each (λ j x m. m.cost + task.graph.spare x ≤ j + 1000) low sound.low;
       comes = each (Comes task.graph new)
           (still_comes task.strategy.weight old new y e opening i puts task.graph i y e comes)
@@ -358,7 +358,7 @@ module _ {K : Type 0} where
       pairs = λ h j there. ⊎_elim
           (λ same.
           let here : IsStored new j y e = subst (λ k. IsStored new k y e) (ap (λ p. p.1) same) puts.here in
-          let level : opens_at (weighed task.strategy e) opening ≡ h = ap (λ p. p.0) same in
+          let level : opens_at (weighed_cost task.strategy e) opening ≡ h = ap (λ p. p.0) same in
           let at_j : f_of task new j e ≡ f_of task new i e = ap (λ k. f_of task new k e) (sym (ap (λ p. p.1) same)) in
           (y, e, here, omega (arith, level, at_j, own_f)))
           (λ before.
@@ -367,7 +367,7 @@ module _ {K : Type 0} where
           let le : f_of task new j now.0 ≤ h =
           (let a = was.3 in omega (arith, mul-le-mul_left task.strategy.weight.parts now.2, a, same_f j was.0 was.1 was.2 now.0)) in
           (was.0, now.0, now.1, le))
-          (added_cases old.waiting new.waiting (opens_at (weighed task.strategy e) opening, i) (h, j) puts.opened there);
+          (added_cases old.waiting new.waiting (opens_at (weighed_cost task.strategy e) opening, i) (h, j) puts.opened there);
       noted = still_noted task.strategy.weight task.graph old new y e opening i puts shown sound.noted;
       under = each (λ j x m. (n : ℕ) → task.graph.wins n → ReachesLimit task.limit n → m.cost + bound_at new j ≤ n)
           (λ n wins reach. omega (arith, under n wins reach, bound_here task.strategy.weight old new y e opening i puts task.graph sound.noted))
@@ -376,7 +376,7 @@ module _ {K : Type 0} where
           (λ same. λ n wins reach. subst (λ k. k ≤ task.strategy.weight.times * n) (ap (λ p. p.0) same)
           (omega (arith, open_under task.strategy.weight e.cost opening.bound n heavy (under n wins reach), is)))
           (λ before. sound.near h j before)
-          (added_cases old.waiting new.waiting (opens_at (weighed task.strategy e) opening, i) (h, j) puts.opened there);
+          (added_cases old.waiting new.waiting (opens_at (weighed_cost task.strategy e) opening, i) (h, j) puts.opened there);
     }
 
     pub still_settled : (busy : ℕ)
@@ -385,13 +385,13 @@ module _ {K : Type 0} where
     still_settled busy settled j x m ne at =
         ⊎_elim
         (λ same. let both = here_again j x m same at in
-        inl (subst (λ k. IsOpenAt new k (weighed task.strategy m) (f_of task new k m)) (sym same)
-        (subst (λ n. IsOpenAt new i (weighed task.strategy n) (f_of task new i n)) (sym both.1)
-        (subst (IsOpenAt new i (weighed task.strategy e)) (sym own_f)
-        (opened_here task.graph old new opening i (weighed task.strategy e) puts.opened puts.notes sound.noted)))))
+        inl (subst (λ k. IsOpenAt new k (weighed_cost task.strategy m) (f_of task new k m)) (sym same)
+        (subst (λ n. IsOpenAt new i (weighed_cost task.strategy n) (f_of task new i n)) (sym both.1)
+        (subst (IsOpenAt new i (weighed_cost task.strategy e)) (sym own_f)
+        (opened_here task.graph old new opening i (weighed_cost task.strategy e) puts.opened puts.notes sound.noted)))))
         (λ other. elim (settled j x m ne (puts.back j x m other at)) [
-          | inl is_open ↦ inl (subst (IsOpenAt new j (weighed task.strategy m)) (sym (same_f j x m (puts.back j x m other at) m))
-              (still_open task.graph old new opening i j (weighed task.strategy m) (opens_at (weighed task.strategy e) opening, i) (f_of task old j m)
+          | inl is_open ↦ inl (subst (IsOpenAt new j (weighed_cost task.strategy m)) (sym (same_f j x m (puts.back j x m other at) m))
+              (still_open task.graph old new opening i j (weighed_cost task.strategy m) (opens_at (weighed_cost task.strategy e) opening, i) (f_of task old j m)
               puts.opened puts.notes sound.noted other is_open))
           | inr (inl done) ↦ inr (inl (still_expanded task.strategy.weight old new y e opening i puts task x m.cost done))
           | inr (inr later) ↦ inr (inr (still_later task.strategy.expansion task old new y e opening i

@@ -10,7 +10,7 @@ use Rattle.fc_best_first.specs.declared.strategies.Strategy.{Strategy}
 use Rattle.fc_best_first.specs.Graph.{Graph, Task}
 use Rattle.fc_best_first.specs.Kept.{AreNoted}
 use Rattle.fc_best_first.specs.Limits.{IsBelowLimit, IsWithinLimit, Ratio, ReachesLimit}
-use Rattle.fc_best_first.specs.Store.{Store, Candidate, IsNew, IsOpening, IsStored, Admits, Offers, Stores, opens_at, weighed}
+use Rattle.fc_best_first.specs.Store.{Store, Candidate, IsNew, IsOpening, IsStored, Admits, Offers, Stores, opens_at, weighed_cost}
 use Rattle.fc_best_first.specs.inner.Turn.{IsPutOffNear}
 use Rattle.fc_best_first.proofs.KeptLemmas.{open_under, stands_within}
 
@@ -47,7 +47,7 @@ module _ {K : Type 0} where
   -- what is stored is offered where it is admitted
   pub stores_offers : (task : Task K) (taken : ℕ) (old new : Store K) (offer : Candidate K) (o : Offered K) → IsNew old offer.key
       → IsOpening task.graph task.strategy.weight offer.key offer.opening
-      → Admits task.strategy.expansion taken (opens_at (weighed task.strategy offer.mark) offer.opening)
+      → Admits task.strategy.expansion taken (opens_at (weighed_cost task.strategy offer.mark) offer.opening)
       → IsBelowLimit task.limit (offer.mark.cost + offer.opening.bound) → Stores task.strategy old new offer o
       → Offers task taken old new offer o
   stores_offers task taken old new offer offered.Known fresh opens admits short h = absurd h

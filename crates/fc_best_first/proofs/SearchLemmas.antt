@@ -18,7 +18,7 @@ use Rattle.fc_best_first.specs.declared.turns.Status.{Status}
 use Rattle.fc_best_first.specs.declared.turns.Status.TheVariants.{Running, Won, CannotWin, GaveUp, Stopped}
 use Rattle.fc_best_first.specs.Graph.{Task, IsLawful}
 use Rattle.fc_best_first.specs.Limits.{weigh}
-use Rattle.fc_best_first.specs.Store.{Store, IsStored, IsTaken, bound_at, bound_in, opens_at, weighed}
+use Rattle.fc_best_first.specs.Store.{Store, IsStored, IsTaken, bound_at, bound_in, opens_at, weighed_cost}
 use Rattle.fc_best_first.specs.Turn.{Advances, AreChildren, Closes, DropsTaken, ExpandsTaken, Expands, Reopens, work_left}
 use Rattle.fc_best_first.specs.Kept.{AreNoted, Comes, IsExpanded, IsExpandedBelow, IsMet, IsOpenAt, IsOpenLater, IsOpenOrExpanded, IsNeeded, IsSound, IsKept, IsWhereOpen, f_of}
 use Rattle.fc_best_first.specs.Shown.{IsFloor, IsFound, IsExhausted, IsGivenUp, Holds, Shows}
@@ -40,7 +40,7 @@ key_cases (e ∷ es) y (suc i) x at = elim (key_cases es y i x at) [
 
 -- a key of which children were put off is open again
 module _ {K : Type 0} (task : Task K) (after new : Store K) (number : ℕ) (x : K) (mark : Mark) (later : ℕ)
-    (reopens : Reopens after new number (weighed task.strategy mark) later) where
+    (reopens : Reopens after new number (weighed_cost task.strategy mark) later) where
   abbrev next : Opening
   next = reopens.1
 
@@ -76,8 +76,8 @@ module _ {K : Type 0} (task : Task K) (after new : Store K) (number : ℕ) (x : 
       )
 
   -- it was open at what was taken, which is less
-  reopened_rises : (f : ℕ) → IsWhereOpen after number (weighed task.strategy mark) f
-      → f < later → opens_at (weighed task.strategy mark) reopens.0 < later
+  reopened_rises : (f : ℕ) → IsWhereOpen after number (weighed_cost task.strategy mark) f
+      → f < later → opens_at (weighed_cost task.strategy mark) reopens.0 < later
   reopened_rises f (last, there, at) lt =
       let one : last ≡ reopens.0 = (let both = sym there ∙ reopens.2 in cc) in
       let level = ap (λ o. o.over) one in
@@ -129,8 +129,8 @@ module _ {K : Type 0} (task : Task K) (after new : Store K) (number : ℕ) (x : 
   reopened_others : IsSound task after → IsStored after number x mark → (j : ℕ) (y : K) (l : Mark) → (j ≡ number → ⊥)
       → IsOpenOrExpanded task after j y l → IsOpenOrExpanded task new j y l
   reopened_others sound at j y l ne h = elim h [
-    | inl is_open ↦ inl (subst (IsOpenAt new j (weighed task.strategy l)) (sym (reopened_f sound.noted at j l))
-        (still_open task.graph after new next number j (weighed task.strategy l) (later, number) (f_of task after j l) reopens.8
+    | inl is_open ↦ inl (subst (IsOpenAt new j (weighed_cost task.strategy l)) (sym (reopened_f sound.noted at j l))
+        (still_open task.graph after new next number j (weighed_cost task.strategy l) (later, number) (f_of task after j l) reopens.8
         (reopened_notes at) sound.noted ne is_open))
     | inr (inl done) ↦ inr (inl (kept_expanded task after new y l.cost reopens.7 done))
     | inr (inr is_open) ↦ inr (inr (by task.strategy.expansion is_open))
@@ -140,14 +140,14 @@ module _ {K : Type 0} (task : Task K) (after new : Store K) (number : ℕ) (x : 
       by expansion.Full is_open = absurd is_open
       by expansion.Partial (f, is_open, below) = (
         f,
-        still_open task.graph after new next number j (weighed task.strategy l) (later, number) f reopens.8 (reopened_notes at) sound.noted ne is_open,
+        still_open task.graph after new next number j (weighed_cost task.strategy l) (later, number) f reopens.8 (reopened_notes at) sound.noted ne is_open,
         kept_below task after new y l.cost f reopens.7 below,
       )
 
 module _ {K : Type 0} (task : Task K) where
   module _ (lawful : IsLawful task.graph) (heavy : task.strategy.weight.parts ≤ task.strategy.weight.times) (old new : Store K) (kept : IsKept task old) where
     module _ (number : ℕ) (f : ℕ) (x : K) (mark : Mark) (mid : Store K) (taken : IsTaken old mid f number x mark)
-        (present : IsWhereOpen old number (weighed task.strategy mark) f) (not_won : task.graph.won x → ⊥)
+        (present : IsWhereOpen old number (weighed_cost task.strategy mark) f) (not_won : task.graph.won x → ⊥)
         (children : List (Child K)) (are : AreChildren task.graph x children) (after : Store K) where
       high : f_of task old number mark ≤ f
       high = taken_high task old mid f number x mark kept.sound taken
@@ -200,7 +200,7 @@ module _ {K : Type 0} (task : Task K) where
           let le = mul-le-mul_left task.strategy.weight.parts child.3 in omega (arith, near, le))))
           (all child.0 child.1)
 
-      closed_kept : (placing : Placing K) → Offered placing → Closes after new number (weighed task.strategy mark) placing None → IsKept task new
+      closed_kept : (placing : Placing K) → Offered placing → Closes after new number (weighed_cost task.strategy mark) placing None → IsKept task new
       closed_kept Whole (inl (past, doing, stays, all, less, near)) (same, none) = subst (IsKept task) (sym same) (record {
         sound = doing.sound;
         settled = λ j y l at. ⊎_elim
@@ -250,7 +250,7 @@ module _ {K : Type 0} (task : Task K) where
       closed_kept (Later later) (inr (y, out, gave_up)) closes = absurd (cc)
       closed_kept (NoRoom y) done (same, out) = absurd (none-some y out)
 
-      closed_given_up : (placing : Placing K) (y : K) → Offered placing → Closes after new number (weighed task.strategy mark) placing (Some y)
+      closed_given_up : (placing : Placing K) (y : K) → Offered placing → Closes after new number (weighed_cost task.strategy mark) placing (Some y)
           → IsGivenUp task new y number
       closed_given_up Whole y done (same, out) = absurd (none-some y (sym out))
       closed_given_up (Later later) y done (reopens, out) = absurd (none-some y (sym out))
@@ -259,20 +259,20 @@ module _ {K : Type 0} (task : Task K) where
           let one : u ≡ y = cc in
           subst (λ s. IsGivenUp task s y number) (sym same) (subst (λ v. IsGivenUp task after v number) one gave_up)
 
-      closed_less : (placing : Placing K) → Offered placing → Closes after new number (weighed task.strategy mark) placing None
+      closed_less : (placing : Placing K) → Offered placing → Closes after new number (weighed_cost task.strategy mark) placing None
           → work_left task.strategy.budget new < work_left task.strategy.budget old
       closed_less placing done closes =
           let first = taken_work task.strategy.budget old mid (f, number) taken.kept taken.noted taken.taken in
           let rest = by placing done closes in
           omega (arith, first, rest)
         where
-          by : (placing : Placing K) → Offered placing → Closes after new number (weighed task.strategy mark) placing None
+          by : (placing : Placing K) → Offered placing → Closes after new number (weighed_cost task.strategy mark) placing None
               → work_left task.strategy.budget new ≤ work_left task.strategy.budget mid
           by Whole (inl (past, doing, stays, all, less, near)) (same, none) =
               subst (λ s. work_left task.strategy.budget s ≤ work_left task.strategy.budget mid) (sym same) less
           by Whole (inr (y, out, gave_up)) closes = absurd (cc)
           by (Later later) (inl (past, doing, stays, all, less, near)) (reopens, none) =
-              let again = reopened_work task.strategy.budget after new number (weighed task.strategy mark) reopens.0 later reopens.2
+              let again = reopened_work task.strategy.budget after new number (weighed_cost task.strategy mark) reopens.0 later reopens.2
               (reopened_rises task after new number x mark later reopens f doing.present past.0) reopens in
               omega (arith, again, less)
           by (Later later) (inr (y, out, gave_up)) closes = absurd (cc)
@@ -310,7 +310,7 @@ module _ {K : Type 0} (task : Task K) where
           (λ h is same e.
           let there = kept_back old new j y l taken.kept at in
           let both = same_entry old number y x l mark (subst (λ k. IsStored old k y l) e there) taken.stands in
-          stale_elsewhere old number (weighed task.strategy mark) f h stale
+          stale_elsewhere old number (weighed_cost task.strategy mark) f h stale
           (subst (λ m. IsAt task old number m h) both.1 (subst (λ k. IsAt task old k l h) e is)) same) at;
     }
 
@@ -323,8 +323,8 @@ module _ {K : Type 0} (task : Task K) where
             mark,
             subst (λ es. slice_get es number ≡ Some (x, mark)) (sym taken.kept) taken.stands,
             won,
-            λ i y m at lt. kept_done task.strategy.expansion task old new y m.cost (weighed task.strategy mark) taken.kept
-                (less_done task.strategy.expansion task old y m.cost (weighed task.strategy mark) f (omega (arith, high))
+            λ i y m at lt. kept_done task.strategy.expansion task old new y m.cost (weighed_cost task.strategy mark) taken.kept
+                (less_done task.strategy.expansion task old y m.cost (weighed_cost task.strategy mark) f (omega (arith, high))
                 (below_least task old f number kept taken.least i y m (kept_back old new i y m taken.kept at)
                 (omega (arith, lt, high, same_f task old new i m taken.noted)))),
             λ i y m ne at. others_settled task old new f number x mark kept taken i y m (λ h is same e. ne e) at,
@@ -367,7 +367,7 @@ module _ {K : Type 0} (task : Task K) where
         won,
         reached,
         lawful.answers x mark.cost reached won,
-        none_below task lawful heavy s (weighed task.strategy mark) sound done
+        none_below task lawful heavy s (weighed_cost task.strategy mark) sound done
             (λ n wins reach. let le = open_under task.strategy.weight mark.cost (bound_at s number) n heavy (sound.under number x mark at n wins reach) in omega (arith, le)),
       )
   holds_shows lawful heavy s CannotWin (sound, done) = λ n wins. ⊎_elim (λ reach. reach)

@@ -16,7 +16,7 @@ use Rattle.fc_best_first.specs.declared.turns.Status.{Status}
 use Rattle.fc_best_first.specs.declared.turns.Status.TheVariants.{Running, Won, CannotWin, GaveUp, Stopped}
 use Rattle.fc_best_first.specs.declared.turns.Placing.{Placing}
 use Rattle.fc_best_first.specs.declared.turns.Placing.TheVariants.{Whole, Later, NoRoom}
-use Rattle.fc_best_first.specs.Graph.{Graph, Task, Reached}
+use Rattle.fc_best_first.specs.Graph.{Graph, Task, IsReached}
 use Rattle.fc_best_first.specs.Limits.{IsWithinLimit, ReachesLimit, weigh}
 use Rattle.fc_best_first.specs.Store.{Store, Candidate, Offers, PutsOff}
 use Rattle.fc_best_first.specs.Turn.{Advances, AreChildren, Closes, Expands, ExpandsTaken, candidate_of, put_off}
@@ -230,7 +230,7 @@ module _ {K : Type 0} where
   becomes_advances task old after new number cost placing works Stopped h = absurd h
 
   -- the children of a key that was reached can be reached
-  pub children_reached : (g : Graph K) (x : K) (children : List (Child K)) → ((d : ℕ) × Reached g x d) → AreChildren g x children
+  pub children_reached : (g : Graph K) (x : K) (children : List (Child K)) → ((d : ℕ) × IsReached g x d) → AreChildren g x children
       → AreReached g children
   children_reached g x children (d, (edges, reached)) are child there =
       let edge = are.edges child there in

@@ -12,7 +12,7 @@ use Rattle.fc_best_first.specs.declared.books.Mark.{Mark}
 use Rattle.fc_best_first.specs.declared.books.Opening.{Opening}
 use Rattle.fc_best_first.specs.declared.books.Offered.TheVariants.{Added}
 use Rattle.fc_best_first.specs.declared.strategies.Strategy.{Strategy}
-use Rattle.fc_best_first.specs.Store.{Store, Candidate, Lowers, Stores, opens_at, weighed}
+use Rattle.fc_best_first.specs.Store.{Store, Candidate, Lowers, Stores, opens_at, weighed_cost}
 use Rattle.fc_best_first.specs.Turn.{Reopens, costs_below, work_left}
 
 added_one : (old new : List (ℕ × ℕ)) (p : ℕ × ℕ) → Adds old new p → length new ≡ suc (length old)
@@ -114,7 +114,7 @@ module _ {K : Type 0} where
       (sym size)
       (lowered_falls (sum_by (λ e. e.1.cost) old.stored) (sum_by (λ e. e.1.cost) new.stored) mark.cost was.cost
       (length old.waiting) (length new.waiting) (rises old.openings) (rises new.openings) (costs_below budget - costs_below (length old.stored)) sum lt
-      (added_one old.waiting new.waiting (opens_at (weighed strategy mark) opening, i) opened)
+      (added_one old.waiting new.waiting (opens_at (weighed_cost strategy mark) opening, i) opened)
       (anew_most old.openings new.openings i opening noted))
 
   pub added_work : (strategy : Strategy) (old new : Store K) (offer : Candidate K) → Stores strategy old new offer Added
@@ -136,7 +136,7 @@ module _ {K : Type 0} where
       ∙ ap (λ k. 28051 * (sum_by (λ (e : K × Mark). e.1.cost) new.stored + (total - k)) + rises new.openings + length new.waiting) (sym now))
       (added_falls (sum_by (λ e. e.1.cost) old.stored) offer.mark.cost n here total (length old.waiting) (length new.waiting)
       (rises old.openings) (rises new.openings) room low
-      (added_one old.waiting new.waiting (opens_at (weighed strategy offer.mark) offer.opening, n) opened)
+      (added_one old.waiting new.waiting (opens_at (weighed_cost strategy offer.mark) offer.opening, n) opened)
       (last_most old.openings new.openings offer.opening noted))
 
   -- a pair that is taken leaves less

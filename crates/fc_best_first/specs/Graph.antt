@@ -23,6 +23,10 @@ pub record Task (K : Type 0) : Type 1 where
   pub limit : Option ℕ
 
 module _ {K : Type 0} where
+  -- the same of its three parts
+  abbrev pub task_by : Graph K → Strategy → Option ℕ → Task K
+  task_by g strategy limit = record { graph = g; strategy = strategy; limit = limit }
+
   -- so many edges lead to the key from a start, at this cost in all
   abbrev pub ReachedBy : ℕ → Graph K → K → ℕ → Type 0
   ReachedBy zero g y cost = g.starts y cost
@@ -30,8 +34,8 @@ module _ {K : Type 0} where
       (x : K) × (d : ℕ) × (c : ℕ) × ReachedBy edges g x d × g.edge x c y × (cost ≡ d + c)
 
   -- the key can be reached at this cost
-  abbrev pub Reached : Graph K → K → ℕ → Type 0
-  Reached g y cost = (edges : ℕ) × ReachedBy edges g y cost
+  abbrev pub IsReached : Graph K → K → ℕ → Type 0
+  IsReached g y cost = (edges : ℕ) × ReachedBy edges g y cost
 
   -- a table of keys and costs lists the key at no more than this cost
   abbrev pub Lists : List (K × ℕ) → K → ℕ → Type 0
@@ -44,7 +48,7 @@ module _ {K : Type 0} where
   -- a table of reached keys that leaves no answer below n: no key below n is won, and all that starts, and all that an
   -- edge leads to from a key below n, is covered
   pub record IsClosedInside (g : Graph K) (n : ℕ) (table : List (K × ℕ)) : Type 0 where
-    pub reached : (x : K) (d : ℕ) → Contains table (x, d) → Reached g x d
+    pub reached : (x : K) (d : ℕ) → Contains table (x, d) → IsReached g x d
     pub not_won : (x : K) (d : ℕ) → Contains table (x, d) → d + g.bound x < n → g.won x → ⊥
     pub starts : (x : K) (d : ℕ) → g.starts x d → Covers g n table x d
     pub edges : (x : K) (d : ℕ) (c : ℕ) (y : K) → Contains table (x, d) → d + g.bound x < n → g.edge x c y
@@ -54,7 +58,7 @@ module _ {K : Type 0} where
   -- answer below n, what is shown of a key is no greater than its bound, an edge costs one and what its key spares, and a start's cost
   -- and what it may spare are small
   pub record IsLawful (g : Graph K) : Type 0 where
-    pub answers : (x : K) (d : ℕ) → Reached g x d → g.won x → g.wins d
+    pub answers : (x : K) (d : ℕ) → IsReached g x d → g.won x → g.wins d
     pub closed : (n : ℕ) (table : List (K × ℕ)) → IsClosedInside g n table → (m : ℕ) → g.wins m → n ≤ m
     pub shown : (x : K) (bound note : ℕ) → g.shown x bound note → bound ≤ g.bound x
     pub edges : (x : K) (c : ℕ) (y : K) → g.edge x c y → (1 ≤ c) × (c + g.spare y ≤ 1 + g.spare x)

@@ -5,9 +5,9 @@ use Rattle.fc_best_first.specs.declared.books.Opening.{Opening}
 use Rattle.fc_best_first.specs.declared.strategies.Expansion.{Expansion}
 use Rattle.fc_best_first.specs.declared.strategies.Expansion.TheVariants.{Full, Partial}
 use Rattle.fc_best_first.specs.declared.turns.TheConstants.{MOST_SPARE}
-use Rattle.fc_best_first.specs.Graph.{Graph, Task, Reached}
+use Rattle.fc_best_first.specs.Graph.{Graph, Task, IsReached}
 use Rattle.fc_best_first.specs.Limits.{Ratio, ReachesLimit, weigh}
-use Rattle.fc_best_first.specs.Store.{Store, IsStored, bound_at, opens_at, weighed}
+use Rattle.fc_best_first.specs.Store.{Store, IsStored, bound_at, opens_at, weighed_cost}
 
 module _ {K : Type 0} where
   -- the key is stored at no more than this cost
@@ -57,11 +57,11 @@ module _ {K : Type 0} where
   abbrev pub IsOpenLater : Expansion → Task K → Store K → ℕ → K → Mark → Type 0
   IsOpenLater Full task s number x mark = ⊥
   IsOpenLater Partial task s number x mark =
-      (f : ℕ) × IsOpenAt s number (weighed task.strategy mark) f × IsExpandedBelow task s x mark.cost f
+      (f : ℕ) × IsOpenAt s number (weighed_cost task.strategy mark) f × IsExpandedBelow task s x mark.cost f
 
   -- the key is open at its cost plus what is noted of it, both weighed, or expanded, or open later
   abbrev pub IsOpenOrExpanded : Task K → Store K → ℕ → K → Mark → Type 0
-  IsOpenOrExpanded task s number x mark = IsOpenAt s number (weighed task.strategy mark) (f_of task s number mark)
+  IsOpenOrExpanded task s number x mark = IsOpenAt s number (weighed_cost task.strategy mark) (f_of task s number mark)
       ⊎ (IsExpanded task s x mark.cost
       ⊎ IsOpenLater task.strategy.expansion task s number x mark)
 
@@ -74,8 +74,8 @@ module _ {K : Type 0} where
   -- shown no answer, weighed as a bound is, is below; by partial expansion it was itself reached at such a cost
   abbrev pub IsNeeded : Expansion → Graph K → Ratio → K → Type 0
   IsNeeded Full g weight y = ((d : ℕ) × g.starts y d)
-      ⊎ ((x : K) × (d : ℕ) × (c : ℕ) × Reached g x d × g.edge x c y × IsWithin g weight x d)
-  IsNeeded Partial g weight y = (d : ℕ) × Reached g y d × IsWithin g weight y d
+      ⊎ ((x : K) × (d : ℕ) × (c : ℕ) × IsReached g x d × g.edge x c y × IsWithin g weight x d)
+  IsNeeded Partial g weight y = (d : ℕ) × IsReached g y d × IsWithin g weight y d
 
   -- the key starts under this number, its own parent, or an edge leads to it from its parent, at no more than its cost
   abbrev pub Comes : Graph K → Store K → ℕ → K → Mark → Type 0
@@ -92,7 +92,7 @@ module _ {K : Type 0} where
   pub record IsSound (task : Task K) (s : Store K) : Type 0 where
     pub room : length s.stored ≤ task.strategy.budget
     pub once : (i j : ℕ) (x : K) (m n : Mark) → IsStored s i x m → IsStored s j x n → i ≡ j
-    pub reached : (i : ℕ) (x : K) (m : Mark) → IsStored s i x m → Reached task.graph x m.cost
+    pub reached : (i : ℕ) (x : K) (m : Mark) → IsStored s i x m → IsReached task.graph x m.cost
     pub low : (i : ℕ) (x : K) (m : Mark) → IsStored s i x m → m.cost + task.graph.spare x ≤ i + MOST_SPARE
     pub comes : (i : ℕ) (x : K) (m : Mark) → IsStored s i x m → Comes task.graph s i x m
     pub needed : (i : ℕ) (x : K) (m : Mark) → IsStored s i x m

@@ -2,7 +2,7 @@
 use Rattle.std.specs.Prelude.{◌≡◌, ℕ, ◌+◌, ◌<◌, ◌≤◌, Option}
 use Rattle.fc_best_first.specs.declared.books.Mark.{Mark}
 use Rattle.fc_best_first.specs.declared.strategies.Strategy.{Strategy}
-use Rattle.fc_best_first.specs.Graph.{Graph, IsLawful}
+use Rattle.fc_best_first.specs.Graph.{Graph, IsLawful, task_by}
 use Rattle.fc_best_first.specs.Limits.{IsUpTo}
 use Rattle.fc_best_first.specs.Store.{Store, IsStored, bound_at}
 use Rattle.fc_best_first.specs.Kept.{IsCoveredBelow, IsDone, IsSound, f_of}
@@ -16,12 +16,12 @@ module _ {K : Type 0} where
   abbrev pub OpenFloorsHold : Graph K → Type 0
   OpenFloorsHold g = IsLawful g → (strategy : Strategy) (limit : Option ℕ) (s : Store K) (number : ℕ) (x : K) (mark : Mark)
       (f most floor : ℕ) → strategy.weight.parts ≤ strategy.weight.times
-      → IsSound (record { graph = g; strategy = strategy; limit = limit }) s
-      → AreSettledBut (record { graph = g; strategy = strategy; limit = limit }) s number → IsStored s number x mark
-      → IsUnder (record { graph = g; strategy = strategy; limit = limit }) s number mark f most
-      → (f_of (record { graph = g; strategy = strategy; limit = limit }) s number mark < f
-      → IsDone strategy.expansion (record { graph = g; strategy = strategy; limit = limit }) s x mark.cost f)
-      → IsLeastOpen (record { graph = g; strategy = strategy; limit = limit }) s most floor → IsUpTo limit floor
+      → IsSound (task_by g strategy limit) s
+      → AreSettledBut (task_by g strategy limit) s number → IsStored s number x mark
+      → IsUnder (task_by g strategy limit) s number mark f most
+      → (f_of (task_by g strategy limit) s number mark < f
+      → IsDone strategy.expansion (task_by g strategy limit) s x mark.cost f)
+      → IsLeastOpen (task_by g strategy limit) s most floor → IsUpTo limit floor
       → ((i : ℕ) (y : K) (m : Mark) → IsStored s i y m → m.cost + bound_at s i < floor → IsCoveredBelow g s y m.cost floor)
       × ((n : ℕ) → g.wins n → floor ≤ n)
 

@@ -9,8 +9,8 @@ use Rattle.fc_best_first.specs.declared.searches.Step.TheVariants.{Running as ru
 use Rattle.fc_best_first.specs.declared.searches.SearchFault.{SearchFault}
 use Rattle.fc_best_first.specs.declared.searches.SearchFault.TheVariants as fault
 use Rattle.fc_best_first.specs.declared.strategies.Strategy.{Strategy}
-use Rattle.fc_best_first.specs.Graph.{Graph, Task}
-use Rattle.fc_best_first.specs.Store.{Store, IsOpening, opens_at, weighed}
+use Rattle.fc_best_first.specs.Graph.{Graph, Task, task_by}
+use Rattle.fc_best_first.specs.Store.{Store, IsOpening, opens_at, weighed_cost}
 use Rattle.fc_best_first.specs.Turn.{Advances, TakesFloor}
 
 -- a search: the space that it is of, its strategy, its limit, what it stores and has open, where it stands, and the greatest f
@@ -26,14 +26,14 @@ pub record Progress (S : Type 0) (K : Type 0) : Type 0 where
 module _ {S K : Type 0} where
   -- what a search is asked, its question by its space
   abbrev pub task_of : (S → Graph K) → Progress S K → Task K
-  task_of graph s = record { graph = graph s.space; strategy = s.strategy; limit = s.limit }
+  task_of graph s = task_by (graph s.space) s.strategy s.limit
 
 module _ {K : Type 0} where
   -- the key that starts is stored under 0, as its own parent, and open at its cost plus a number that is shown of it, both weighed
   abbrev pub Begins : Task K → Store K → Type 0
   Begins task s = (x : K) × (cost : ℕ) × (opening : Opening) × task.graph.starts x cost
       × IsOpening task.graph task.strategy.weight x opening × (s.stored ≡ (x, record { cost = cost; parent = 0 }) ∷ [])
-      × Adds [] s.waiting (opens_at (weighed task.strategy (record { cost = cost; parent = 0 })) opening, 0)
+      × Adds [] s.waiting (opens_at (weighed_cost task.strategy (record { cost = cost; parent = 0 })) opening, 0)
       × (s.openings ≡ opening ∷ [])
 
   -- what a turn answers, by the status that it leaves

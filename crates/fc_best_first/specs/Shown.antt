@@ -3,9 +3,9 @@ use Rattle.std.specs.Prelude.{◌≡◌, ℕ, ◌+◌, ◌*◌, ◌<◌, ◌≤�
 use Rattle.fc_best_first.specs.declared.books.Mark.{Mark}
 use Rattle.fc_best_first.specs.declared.turns.Status.{Status}
 use Rattle.fc_best_first.specs.declared.turns.Status.TheVariants.{Running, Won, CannotWin, GaveUp, Stopped}
-use Rattle.fc_best_first.specs.Graph.{Graph, Task, Reached}
+use Rattle.fc_best_first.specs.Graph.{Graph, Task, IsReached}
 use Rattle.fc_best_first.specs.Limits.{Ratio, ReachesLimit}
-use Rattle.fc_best_first.specs.Store.{Store, IsStored, IsNew, bound_at, weighed}
+use Rattle.fc_best_first.specs.Store.{Store, IsStored, IsNew, bound_at, weighed_cost}
 use Rattle.fc_best_first.specs.Kept.{IsWhereOpen, IsSound, IsKept, IsDone, IsExpanded, IsOpenOrExpanded, IsNeeded, f_of}
 
 module _ {K : Type 0} where
@@ -22,8 +22,8 @@ module _ {K : Type 0} where
   abbrev pub IsFound : Task K → Store K → ℕ → Type 0
   IsFound task s number = IsSound task s
       × ((x : K) × (mark : Mark) × IsStored s number x mark × task.graph.won x
-      × ((i : ℕ) (y : K) (m : Mark) → IsStored s i y m → f_of task s i m < weighed task.strategy mark
-      → IsDone task.strategy.expansion task s y m.cost (weighed task.strategy mark))
+      × ((i : ℕ) (y : K) (m : Mark) → IsStored s i y m → f_of task s i m < weighed_cost task.strategy mark
+      → IsDone task.strategy.expansion task s y m.cost (weighed_cost task.strategy mark))
       × AreSettledBut task s number)
 
   -- each stored key is expanded
@@ -34,7 +34,7 @@ module _ {K : Type 0} where
   -- the key with this number is where it was taken, and done with below that, if that is more than its cost plus what is noted of it, both weighed
   pub record IsTakenAt (task : Task K) (s : Store K) (number : ℕ) (x : K) (mark : Mark) (f : ℕ) : Type 0 where
     pub stands : IsStored s number x mark
-    pub at : IsWhereOpen s number (weighed task.strategy mark) f
+    pub at : IsWhereOpen s number (weighed_cost task.strategy mark) f
     pub done : f_of task s number mark < f → IsDone task.strategy.expansion task s x mark.cost f
 
   -- as many keys as the budget are stored, one more came by needed work from the key with this number, which was taken, and each
@@ -65,8 +65,8 @@ module _ {K : Type 0} where
   -- came by needed work
   abbrev pub Shows : Task K → Store K → Status K → Type 0
   Shows task s Running = Unit {0}
-  Shows task s (Won number) = (x : K) × (mark : Mark) × IsStored s number x mark × task.graph.won x × Reached task.graph x mark.cost
-      × task.graph.wins mark.cost × ((n : ℕ) → task.graph.wins n → weighed task.strategy mark ≤ task.strategy.weight.times * n)
+  Shows task s (Won number) = (x : K) × (mark : Mark) × IsStored s number x mark × task.graph.won x × IsReached task.graph x mark.cost
+      × task.graph.wins mark.cost × ((n : ℕ) → task.graph.wins n → weighed_cost task.strategy mark ≤ task.strategy.weight.times * n)
   Shows task s CannotWin = (n : ℕ) → task.graph.wins n → ReachesLimit task.limit n
   Shows task s (GaveUp y number) = (keys : List K) × AreNeeded task (task.strategy.budget + 1) keys
   Shows task s Stopped = Unit {0}
@@ -86,12 +86,12 @@ module _ {K : Type 0} where
   -- the number is what the key with this one tells, by where it is open
   abbrev pub TellsAt : Task K → Store K → ℕ → ℕ → Type 0
   TellsAt task s number told = (x : K) × (mark : Mark) × (f : ℕ) × IsStored s number x mark
-      × IsWhereOpen s number (weighed task.strategy mark) f × IsTold task s number mark f told
+      × IsWhereOpen s number (weighed_cost task.strategy mark) f × IsTold task s number mark f told
 
   -- the key with this number and mark is open at f
   pub record IsOpen (task : Task K) (s : Store K) (number : ℕ) (x : K) (mark : Mark) (f : ℕ) : Type 0 where
     pub stands : IsStored s number x mark
-    pub at : IsWhereOpen s number (weighed task.strategy mark) f
+    pub at : IsWhereOpen s number (weighed_cost task.strategy mark) f
     pub waits : Contains s.waiting (f, number)
 
   -- the least that the open keys tell, at most a number

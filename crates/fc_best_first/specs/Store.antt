@@ -25,8 +25,8 @@ pub record Candidate (K : Type 0) : Type 0 where
   pub opening : Opening
 
 -- the cost of a mark, as a search by this strategy weighs it
-abbrev pub weighed : Strategy → Mark → ℕ
-weighed strategy mark = strategy.weight.parts * mark.cost
+abbrev pub weighed_cost : Strategy → Mark → ℕ
+weighed_cost strategy mark = strategy.weight.parts * mark.cost
 
 -- what is open at an opening of a key of this weighed cost is open at this f
 abbrev pub opens_at : ℕ → Opening → ℕ
@@ -75,7 +75,7 @@ module _ {K : Type 0} where
   abbrev pub Stores : Strategy → Store K → Store K → Candidate K → Offered K → Type 0
   Stores strategy old new offer Added =
       (length old.stored < strategy.budget) × (new.stored ≡ old.stored ++ (offer.key, offer.mark) ∷ [])
-      × Adds old.waiting new.waiting (opens_at (weighed strategy offer.mark) offer.opening, length old.stored)
+      × Adds old.waiting new.waiting (opens_at (weighed_cost strategy offer.mark) offer.opening, length old.stored)
       × (new.openings ≡ old.openings ++ offer.opening ∷ [])
   Stores strategy old new offer (Full y) = (y ≡ offer.key) × (strategy.budget ≤ length old.stored) × (new ≡ old)
   Stores strategy old new offer _ = ⊥
@@ -83,7 +83,7 @@ module _ {K : Type 0} where
   -- a stored key takes the new mark and is open at its new f, which is noted
   abbrev pub Lowers : Strategy → Store K → Store K → ℕ → Mark → Opening → Type 0
   Lowers strategy old new number mark opening = (new.stored ≡ set_value_at old.stored number mark)
-      × Adds old.waiting new.waiting (opens_at (weighed strategy mark) opening, number)
+      × Adds old.waiting new.waiting (opens_at (weighed_cost strategy mark) opening, number)
       × (new.openings ≡ slice_set old.openings number opening)
 
   -- what offering a key does, when a pair of this f was taken: one that is stored is left where it is stored at no more, and
@@ -98,10 +98,10 @@ module _ {K : Type 0} where
       × ((before : Opening) × (slice_get old.openings number ≡ Some before) × IsOpenedAnew task.strategy.weight before offer.opening)
       × Lowers task.strategy old new number offer.mark offer.opening
   Offers task taken old new offer Added = IsNew old offer.key × IsOpening task.graph task.strategy.weight offer.key offer.opening
-      × Admits task.strategy.expansion taken (opens_at (weighed task.strategy offer.mark) offer.opening)
+      × Admits task.strategy.expansion taken (opens_at (weighed_cost task.strategy offer.mark) offer.opening)
       × IsBelowLimit task.limit (offer.mark.cost + offer.opening.bound) × Stores task.strategy old new offer Added
   Offers task taken old new offer (Full y) = IsNew old offer.key × IsOpening task.graph task.strategy.weight offer.key offer.opening
-      × Admits task.strategy.expansion taken (opens_at (weighed task.strategy offer.mark) offer.opening)
+      × Admits task.strategy.expansion taken (opens_at (weighed_cost task.strategy offer.mark) offer.opening)
       × IsBelowLimit task.limit (offer.mark.cost + offer.opening.bound) × Stores task.strategy old new offer (Full y)
   Offers task taken old new offer (PutOff later) =
       PutsOff task.strategy.expansion taken (weigh task.strategy.weight offer.mark.cost (task.graph.bound offer.key)) later

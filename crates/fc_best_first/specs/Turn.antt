@@ -1,5 +1,5 @@
 -- One turn of a search.
-use Rattle.std.specs.Prelude.{◌≡◌, ◌≢◌, ℕ, ◌+◌, ◌-◌, ◌*◌, ◌≤◌, ◌⊎◌, zero, suc, max, min, List, [], ◌∷◌, length, slice_get, slice_set, sum_by, Contains, Option, Some, None}
+use Rattle.std.specs.Prelude.{◌≡◌, ◌≢◌, ◌↔◌, ℕ, ◌+◌, ◌-◌, ◌*◌, ◌≤◌, ◌⊎◌, zero, suc, max, min, Bool, IsTrue, List, [], ◌∷◌, ◌++◌, length, slice_get, slice_set, sum_by, Contains, Option, Some, None}
 use Rattle.fc_frontier.specs.Queue.{Adds, IsLeast}
 use Rattle.fc_best_first.specs.declared.books.Mark.{Mark}
 use Rattle.fc_best_first.specs.declared.books.Opening.{Opening}
@@ -11,7 +11,7 @@ use Rattle.fc_best_first.specs.declared.turns.Status.{Status}
 use Rattle.fc_best_first.specs.declared.turns.Status.TheVariants.{Running, Won, CannotWin, GaveUp, Stopped}
 use Rattle.fc_best_first.specs.declared.turns.TheConstants.{MOST_OVER, MOST_SPARE}
 use Rattle.fc_best_first.specs.Graph.{Graph, Task}
-use Rattle.fc_best_first.specs.Store.{Store, Candidate, Offers, IsTaken, opens_at, weighed}
+use Rattle.fc_best_first.specs.Store.{Store, Candidate, Offers, IsTaken, opens_at, weighed_cost}
 use Rattle.fc_best_first.specs.Kept.{IsWhereOpen}
 
 -- the floor that a turn of a running search leaves, the greatest f that was taken: the same where no pair is open, else the
@@ -32,6 +32,11 @@ module _ {K : Type 0} where
     pub edges : (child : Child K) → Contains children child → g.edge x child.cost child.key
     pub whole : (c : ℕ) (y : K) → g.edge x c y
         → (child : Child K) × Contains children child × (child.key ≡ y) × (child.cost ≤ c)
+
+  -- these are the children of a key but for others whose bounds are no less than this one, and told is whether there are such
+  abbrev pub AreChildrenBut : Graph K → K → ℕ → Bool → List (Child K) → Type 0
+  AreChildrenBut g x bound some children = (others : List (Child K)) × AreChildren g x (others ++ children)
+      × ((child : Child K) → Contains others child → bound ≤ g.bound child.key) × (IsTrue some ↔ (others ≢ []))
 
   -- a child as it is offered: its mark, by the mark of a child that would cost nothing, and where it would be open
   abbrev pub candidate_of : Mark → Child K → Opening → Candidate K
@@ -86,17 +91,17 @@ module _ {K : Type 0} where
   abbrev pub ExpandsTaken : Task K → Store K → Store K → ℕ → Option K → Type 0
   ExpandsTaken task old new number left_out =
       (f : ℕ) × (x : K) × (mark : Mark) × (mid : Store K) × IsTaken old mid f number x mark
-      × (task.graph.won x → ⊥) × IsWhereOpen old number (weighed task.strategy mark) f
+      × (task.graph.won x → ⊥) × IsWhereOpen old number (weighed_cost task.strategy mark) f
       × ((children : List (Child K)) × AreChildren task.graph x children
       × ((after : Store K) × (placing : Placing K)
       × Expands task f (record { cost = mark.cost; parent = number }) children mid after placing
-      × Closes after new number (weighed task.strategy mark) placing left_out))
+      × Closes after new number (weighed_cost task.strategy mark) placing left_out))
 
   -- a key that isn't won was opened anew since the pair was put in: the pair is dropped
   abbrev pub DropsTaken : Task K → Store K → Store K → Type 0
   DropsTaken task old new =
       (f : ℕ) × (number : ℕ) × (x : K) × (mark : Mark) × IsTaken old new f number x mark
-      × (task.graph.won x → ⊥) × IsStale old number (weighed task.strategy mark) f
+      × (task.graph.won x → ⊥) × IsStale old number (weighed_cost task.strategy mark) f
 
   -- one turn of a running search, and the status that it leaves
   abbrev pub Advances : Task K → Store K → Store K → Status K → Type 0

@@ -2,7 +2,7 @@ ghost use Rattle.std.specs.Prelude.{◌≡◌, ◌+◌, ◌*◌, ◌^◌, ◌<�
 ghost use Rattle.std.specs.List.Sorted.{IsPermutation};
 ghost use Rattle.fc_frontier.specs.Queue.{Adds, IsLeast};
 ghost use Rattle.fc_best_first.specs.Limits.{IsWeight};
-ghost use Rattle.fc_best_first.specs.Store.{Store, IsStored, IsNew, Lowers, Stores, opens_at, weighed};
+ghost use Rattle.fc_best_first.specs.Store.{Store, IsStored, IsNew, Lowers, Stores, opens_at, weighed_cost};
 ghost use Rattle.fc_best_first.specs.Turn.{Reopens};
 
 use crate::limits::{MOST_GREAT_BUDGET, Weight};

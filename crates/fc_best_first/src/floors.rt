@@ -1,5 +1,5 @@
 ghost use Rattle.std.specs.Prelude.{◌+◌, ◌*◌, ◌<◌, ◌⊎◌, ℕ, ◌≤◌, Option, length};
-ghost use Rattle.fc_best_first.specs.Graph.{Graph, Task};
+ghost use Rattle.fc_best_first.specs.Graph.{task_by};
 ghost use Rattle.fc_best_first.specs.Kept.{IsSound};
 ghost use Rattle.fc_best_first.specs.Shown.{IsLeastOpen, TellsAt};
 
@@ -28,8 +28,8 @@ pub(crate) fn least_open<K: ExactKey, F: Frontier + Drop, S: Space<K>>(
     strategy: &Strategy,
     most: u32,
 ) -> u32
-    requires sound { (strategy.now.budget ≤ MOST_GREAT_BUDGET) × ((limit : Option ℕ) × IsSound (record { graph = S.graph _space.now; strategy = strategy.now; limit = limit }) book.now) }
-    ensures value { (limit : Option ℕ) → IsLeastOpen (record { graph = S.graph _space.now; strategy = strategy.now; limit = limit }) book.now most result }
+    requires sound { (strategy.now.budget ≤ MOST_GREAT_BUDGET) × ((limit : Option ℕ) × IsSound (task_by (S.graph _space.now) strategy.now limit) book.now) }
+    ensures value { (limit : Option ℕ) → IsLeastOpen (task_by (S.graph _space.now) strategy.now limit) book.now most result }
 {
     let mut floor = most;
     for (f, number) in book.waiting() {
@@ -55,9 +55,9 @@ pub(crate) fn told_by<K: ExactKey, F: Frontier + Drop, S: Space<K>>(
     strategy: &Strategy,
     number: u32,
 ) -> u32
-    requires sound { (strategy.now.budget ≤ MOST_GREAT_BUDGET) × ((limit : Option ℕ) × IsSound (record { graph = S.graph _space.now; strategy = strategy.now; limit = limit }) book.now) }
+    requires sound { (strategy.now.budget ≤ MOST_GREAT_BUDGET) × ((limit : Option ℕ) × IsSound (task_by (S.graph _space.now) strategy.now limit) book.now) }
     requires within { number < length book.now.stored }
-    ensures told { (limit : Option ℕ) → TellsAt (record { graph = S.graph _space.now; strategy = strategy.now; limit = limit }) book.now number result }
+    ensures told { (limit : Option ℕ) → TellsAt (task_by (S.graph _space.now) strategy.now limit) book.now number result }
 {
     let (_key, mark) = book.at(number);
     let opening = book.opening(number);

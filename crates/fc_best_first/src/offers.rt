@@ -1,13 +1,13 @@
 //! A child of a key that is taken, as it finds its place: it is known, stored, or put off.
 
-ghost use Rattle.std.specs.Prelude.{◌≡◌, ◌+◌, ◌*◌, ◌<◌, ◌≤◌, ◌↔◌, ℕ, List, length, IfOk, IfSome, IsTrue, MatchOption};
-ghost use Rattle.fc_best_first.specs.Graph.{Graph, Reached, Task};
+ghost use Rattle.std.specs.Prelude.{◌≡◌, ◌+◌, ◌*◌, ◌<◌, ◌≤◌, ◌↔◌, ℕ, List, length, IfOk, IfSome, IsTrue};
+ghost use Rattle.fc_best_first.specs.Graph.{IsReached, task_by};
 ghost use Rattle.fc_best_first.specs.Kept.{AreNoted};
-ghost use Rattle.fc_best_first.specs.Limits.{IsBelowLimit, IsWithinLimit, ReachesLimit, weigh};
-ghost use Rattle.fc_best_first.specs.Store.{Store, IsNew, Offers, weighed};
+ghost use Rattle.fc_best_first.specs.Limits.{IsBelowLimit, ReachesLimit, weigh};
+ghost use Rattle.fc_best_first.specs.Store.{IsNew, Offers, weighed_cost};
 ghost use Rattle.fc_best_first.specs.declared.books.Opening.{Opening};
 ghost use Rattle.fc_best_first.specs.declared.spaces.Child.{Child};
-ghost use Rattle.fc_best_first.specs.Turn.{candidate_of};
+ghost use Rattle.fc_best_first.specs.inner.Offers.{IsOffUntil, LeavesAll, OfSomeChild};
 ghost use Rattle.fc_best_first.specs.inner.Turn.{IsPutOffNear};
 
 use crate::books::{Book, Mark, Offered, Opening};
@@ -87,9 +87,8 @@ fn put_off<K: ExactKey, S: Space<K>>(
     requires partial { strategy.now.expansion ≡ Expansion.Partial }
     requires low { taken.now.origin.cost ≤ MOST_GREAT_BUDGET + MOST_SPARE }
     requires near { mark.cost ≤ taken.now.origin.cost + 255 }
-    ensures offers { IfSome result (λ offered. (y : K) (opening : Opening) (store : Store K) → S.at walk.now y
-        → Offers (record { graph = S.graph space.now; strategy = strategy.now; limit = taken.now.limit }) taken.now.f store store (record { key = y; mark = mark; opening = opening }) offered) }
-    ensures near { IfSome result (IsPutOffNear (weighed strategy.now taken.now.origin)) }
+    ensures offers { IfSome result (LeavesAll (S.at walk.now) (task_by (S.graph space.now) strategy.now taken.now.limit) taken.now.f mark) }
+    ensures near { IfSome result (IsPutOffNear (weighed_cost strategy.now taken.now.origin)) }
 {
     let opening = Opening::new(
         strategy.weight,
@@ -113,9 +112,8 @@ fn put_off<K: ExactKey, S: Space<K>>(
 pub(crate) fn later_of_others(strategy: &Strategy, taken: &Taken, noted: Noted) -> Option<u32>
     requires low { taken.now.origin.cost ≤ MOST_GREAT_BUDGET + MOST_SPARE }
     requires first { taken.now.f ≡ weigh strategy.now.weight taken.now.origin.cost noted.bound }
-    ensures later { MatchOption result (ReachesLimit taken.now.limit (taken.now.origin.cost + 1 + noted.bound))
-        (λ later. (later ≡ weigh strategy.now.weight (taken.now.origin.cost + 1) noted.bound) × IsWithinLimit taken.now.limit strategy.now.weight.times later) }
-    ensures near { IfSome result (λ later. (taken.now.f < later) × (later ≤ weighed strategy.now taken.now.origin + MOST_OVER)) }
+    ensures later { IsOffUntil taken.now.limit strategy.now.weight (taken.now.origin.cost + 1) noted.bound result }
+    ensures near { IfSome result (λ later. (taken.now.f < later) × (later ≤ weighed_cost strategy.now taken.now.origin + MOST_OVER)) }
 {
     let mark = taken.origin.onward(1);
     let opening = Opening::new(strategy.weight, noted);
@@ -138,15 +136,15 @@ fn store_or_put_off<K: ExactKey, F: Frontier + Drop, S: Space<K>>(
     taken: &Taken,
     met: (K, Mark),
 ) -> Result<Offered<K>, Full>
-    requires reached { (d : ℕ) × Reached (S.graph space.now) met.0 d }
+    requires reached { (d : ℕ) × IsReached (S.graph space.now) met.0 d }
     requires owned { S.owns space.now walk.old }
     requires at { S.at walk.old met.0 }
     requires new { IsNew book.old met.0 }
     requires low { taken.now.origin.cost ≤ MOST_GREAT_BUDGET + MOST_SPARE }
     requires near { met.1.cost ≤ taken.now.origin.cost + 255 }
     ensures offers { IfOk result (λ offered. (opening : Opening)
-        × Offers (record { graph = S.graph space.now; strategy = strategy.now; limit = taken.now.limit }) taken.now.f book.old book.new (record { key = met.0; mark = met.1; opening = opening }) offered) }
-    ensures near { IfOk result (IsPutOffNear (weighed strategy.now taken.now.origin)) }
+        × Offers (task_by (S.graph space.now) strategy.now taken.now.limit) taken.now.f book.old book.new (record { key = met.0; mark = met.1; opening = opening }) offered) }
+    ensures near { IfOk result (IsPutOffNear (weighed_cost strategy.now taken.now.origin)) }
     ensures owned { S.owns space.now walk.new }
     ensures rest { (children : List (Child K)) → S.rest walk.new children ↔ S.rest walk.old children }
     ensures left { S.left walk.new ≡ S.left walk.old }
@@ -181,15 +179,15 @@ pub(crate) fn offer<K: ExactKey, F: Frontier + Drop, S: Space<K>>(
     taken: &Taken,
     cost: u8,
 ) -> Result<Offered<K>, Full>
-    requires reached { (y : K) → S.at walk.old y → (d : ℕ) × Reached (S.graph space.now) y d }
+    requires reached { (y : K) → S.at walk.old y → (d : ℕ) × IsReached (S.graph space.now) y d }
     requires owned { S.owns space.now walk.old }
     requires there { (y : K) × S.at walk.old y }
     requires room { length book.old.stored ≤ strategy.now.budget }
     requires noted { AreNoted (S.graph space.now) book.old }
     requires low { taken.now.origin.cost ≤ MOST_GREAT_BUDGET + MOST_SPARE }
-    ensures offers { IfOk result (λ offered. (y : K) × (opening : Opening) × S.at walk.old y
-        × Offers (record { graph = S.graph space.now; strategy = strategy.now; limit = taken.now.limit }) taken.now.f book.old book.new (candidate_of taken.now.origin (record { key = y; cost = cost }) opening) offered) }
-    ensures near { IfOk result (IsPutOffNear (weighed strategy.now taken.now.origin)) }
+    ensures offers { IfOk result (λ offered. OfSomeChild (S.at walk.old) taken.now.origin cost
+        (λ offer. Offers (task_by (S.graph space.now) strategy.now taken.now.limit) taken.now.f book.old book.new offer offered)) }
+    ensures near { IfOk result (IsPutOffNear (weighed_cost strategy.now taken.now.origin)) }
     ensures owned { S.owns space.now walk.new }
     ensures rest { (children : List (Child K)) → S.rest walk.new children ↔ S.rest walk.old children }
     ensures left { S.left walk.new ≡ S.left walk.old }

@@ -62,6 +62,7 @@ pub struct Search<K: ExactKey, F: Frontier + Drop, S: Space<K> + Drop> {
 }
 
 impl<K: ExactKey, F: Frontier + Drop, S: Space<K> + Drop> Model for Search<K, F, S> {
+    ghost use Rattle.fc_best_first.specs.Graph.{task_by};
     ghost use Rattle.fc_best_first.specs.Limits.{IsGreatBudget, IsWeight};
     ghost use Rattle.fc_best_first.specs.Search.{Progress};
     ghost use Rattle.fc_best_first.specs.Shown.{Holds, IsFloor};
@@ -71,7 +72,7 @@ impl<K: ExactKey, F: Frontier + Drop, S: Space<K> + Drop> Model for Search<K, F,
     ghost view = { λ s. record { space = s.space; strategy = s.strategy; limit = s.limit; store = s.book; status = s.status; floor = s.floor } };
 
     ghost invariant = { λ s. IsWeight s.strategy.weight × IsGreatBudget s.strategy.budget
-        × Holds (record { graph = S.graph s.space; strategy = s.strategy; limit = s.limit }) s.book s.status
+        × Holds (task_by (S.graph s.space) s.strategy s.limit) s.book s.status
         × IsFloor (S.graph s.space) s.strategy.weight s.floor × S.owns s.space s.walk };
 }
 

@@ -1,6 +1,6 @@
-ghost use Rattle.std.specs.Prelude.{◌≡◌, ◌≢◌, ◌≤◌, ◌<◌, ◌^◌, ◌↔◌, ℕ, List, [], ◌∷◌, ◌++◌, false, Contains, IsTrue, IfOk, IfSome, MatchOption};
-ghost use Rattle.fc_best_first.specs.Graph.{Graph, IsLawful, Reached};
-ghost use Rattle.fc_best_first.specs.Turn.{AreChildren};
+ghost use Rattle.std.specs.Prelude.{◌≡◌, ◌≤◌, ◌<◌, ◌^◌, ◌↔◌, ℕ, List, [], ◌∷◌, false, IsTrue, IfOk, IfSome, MatchOption};
+ghost use Rattle.fc_best_first.specs.Graph.{Graph, IsLawful, IsReached};
+ghost use Rattle.fc_best_first.specs.Turn.{AreChildrenBut};
 
 use std::alloc::{AllocError, Global};
 
@@ -52,7 +52,7 @@ pub trait Space<K> {
 
     /// Whether a key that was reached is won.
     fn is_won(&self, key: &K) -> bool
-        requires reached { (d : ℕ) × Reached (graph self.now) key.now d }
+        requires reached { (d : ℕ) × IsReached (graph self.now) key.now d }
         ensures value { IsTrue result ↔ (graph self.now).won key.now };
 
     /// A number that is plain to see, no greater than the bound of the key that a walk stands at. A search by partial expansion asks
@@ -70,7 +70,7 @@ pub trait Space<K> {
     /// What may be noted of the key that a walk stands at. It is looked for no further where the number is greater than `most`
     /// already. A search asks it of the key that starts, and of each child that is new: most are stored already.
     fn noted(&self, walk: &mut Self::Walk, key: &K, most: u8) -> Noted
-        requires reached { (d : ℕ) × Reached (graph self.now) key.now d }
+        requires reached { (d : ℕ) × IsReached (graph self.now) key.now d }
         requires owned { owns self.now walk.old }
         requires at { at walk.old key.now }
         ensures shown { (graph self.now).shown key.now result.bound result.note }
@@ -83,13 +83,12 @@ pub trait Space<K> {
     /// visit children may be left out whose bound is no less than what is noted of the key, and told is whether some are: they
     /// are put off together.
     fn visit(&self, key: &K, noted: Noted, is_first: bool, walk: &mut Self::Walk) -> bool
-        requires reached { (d : ℕ) × Reached (graph self.now) key.now d }
+        requires reached { (d : ℕ) × IsReached (graph self.now) key.now d }
         requires shown { (graph self.now).shown key.now noted.bound noted.note }
         requires owned { owns self.now walk.old }
         ensures owned { owns self.now walk.new }
         ensures children { (children : List (Child K)) → rest walk.new children
-            → (others : List (Child K)) × AreChildren (graph self.now) key.now (others ++ children)
-            × ((child : Child K) → Contains others child → noted.bound ≤ (graph self.now).bound child.key) × (IsTrue result ↔ (others ≢ [])) }
+            → AreChildrenBut (graph self.now) key.now noted.bound result children }
         ensures later { is_first ≡ false → result ≡ false };
 
     /// Goes on to the next of the children that are left, and tells what the edge costs; whichever may follow it could follow it before.

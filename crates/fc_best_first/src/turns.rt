@@ -1,12 +1,12 @@
-ghost use Rattle.std.specs.Prelude.{◌≡◌, ◌+◌, ◌*◌, ◌<◌, ◌≤◌, List, length, ℕ, Contains, Option, min, None, Some, IfOk, IfSome, IsTrue, MatchOption};
-ghost use Rattle.fc_best_first.specs.Graph.{Graph, Reached, Task};
+ghost use Rattle.std.specs.Prelude.{◌≡◌, ◌+◌, ◌*◌, ◌<◌, ◌≤◌, List, length, ℕ, Option, min, None, Some, IfOk, IfSome, IsTrue, MatchOption};
+ghost use Rattle.fc_best_first.specs.Graph.{IsReached, task_by};
 ghost use Rattle.fc_best_first.specs.Limits.{weigh};
 ghost use Rattle.fc_best_first.specs.declared.strategies.Expansion.TheVariants.{Partial};
 ghost use Rattle.fc_best_first.specs.Kept.{AreNoted, IsKept};
-ghost use Rattle.fc_best_first.specs.Store.{Store, Offers, weighed};
-ghost use Rattle.fc_best_first.specs.Turn.{Advances, AreChildren, Closes, Expands, TakesFloor};
+ghost use Rattle.fc_best_first.specs.Store.{Offers, weighed_cost};
+ghost use Rattle.fc_best_first.specs.Turn.{Advances, Expands, TakesFloor};
 ghost use Rattle.fc_best_first.specs.declared.spaces.Child.{Child};
-ghost use Rattle.fc_best_first.specs.inner.Turn.{AreReached, Becomes, IsLaterNear, IsReady, put_off_first};
+ghost use Rattle.fc_best_first.specs.inner.Turn.{AreReached, Becomes, IsLaterNear, IsNearLater, IsReady, PlacesSome, StandForAll};
 
 use crate::books::{Book, Mark, Offered, Opening};
 use crate::limits::MOST_GREAT_BUDGET;
@@ -69,11 +69,10 @@ fn expand<K: ExactKey, F: Frontier + Drop, S: Space<K>>(
     requires low { taken.now.origin.cost ≤ MOST_GREAT_BUDGET + MOST_SPARE }
     requires owned { S.owns space.now walk.old }
     requires reached { (children : List (Child K)) → S.rest walk.old children → AreReached (S.graph space.now) children }
-    requires near { IfSome others (λ f. (strategy.now.expansion ≡ Partial) × (taken.now.f < f) × (f ≤ weighed strategy.now taken.now.origin + MOST_OVER)) }
-    ensures expands { IfOk result (λ placing. (children : List (Child K)) × (own : Placing K) × S.rest walk.old children
-        × Expands (record { graph = S.graph space.now; strategy = strategy.now; limit = taken.now.limit }) taken.now.f taken.now.origin children book.old book.new own
-        × (placing ≡ put_off_first others own)) }
-    ensures near { IfOk result (IsLaterNear strategy.now.expansion taken.now.f (weighed strategy.now taken.now.origin)) }
+    requires near { IfSome others (IsNearLater strategy.now.expansion taken.now.f (weighed_cost strategy.now taken.now.origin)) }
+    ensures expands { IfOk result (PlacesSome (S.rest walk.old) others
+        (λ children own. Expands (task_by (S.graph space.now) strategy.now taken.now.limit) taken.now.f taken.now.origin children book.old book.new own)) }
+    ensures near { IfOk result (IsLaterNear strategy.now.expansion taken.now.f (weighed_cost strategy.now taken.now.origin)) }
     ensures noted { IfOk result (λ placing. AreNoted (S.graph space.now) book.new) }
     ensures owned { S.owns space.now walk.new }
 {
@@ -113,17 +112,14 @@ fn visit<K: ExactKey, S: Space<K>>(
     key: &K,
     noted: Noted,
 ) -> Option<u32>
-    requires reached { (d : ℕ) × Reached (S.graph space.now) key.now d }
+    requires reached { (d : ℕ) × IsReached (S.graph space.now) key.now d }
     requires shown { (S.graph space.now).shown key.now noted.bound noted.note }
     requires low { taken.now.origin.cost ≤ MOST_GREAT_BUDGET + MOST_SPARE }
     requires owned { S.owns space.now walk.old }
     ensures owned { S.owns space.now walk.new }
-    ensures children { (children : List (Child K)) → S.rest walk.new children → (all : List (Child K)) × AreChildren (S.graph space.now) key.now all
-        × ((child : Child K) → Contains children child → Contains all child)
-        × ((old new : Store K) (own : Placing K)
-        → Expands (record { graph = S.graph space.now; strategy = strategy.now; limit = taken.now.limit }) taken.now.f taken.now.origin children old new own
-        → Expands (record { graph = S.graph space.now; strategy = strategy.now; limit = taken.now.limit }) taken.now.f taken.now.origin all old new (put_off_first result own)) }
-    ensures near { IfSome result (λ f. (strategy.now.expansion ≡ Partial) × (taken.now.f < f) × (f ≤ weighed strategy.now taken.now.origin + MOST_OVER)) }
+    ensures children { (children : List (Child K)) → S.rest walk.new children
+        → StandForAll (task_by (S.graph space.now) strategy.now taken.now.limit) taken.now.f taken.now.origin key.now result children }
+    ensures near { IfSome result (IsNearLater strategy.now.expansion taken.now.f (weighed_cost strategy.now taken.now.origin)) }
 {
     let is_first = is_first(strategy, taken, noted);
     if space.visit(key, noted, is_first, walk) {
@@ -165,8 +161,8 @@ pub(crate) fn advance<K: ExactKey, F: Frontier + Drop, S: Space<K>>(
     floor: &mut u32,
 ) -> Result<Status<K>, Full>
     requires owned { S.owns space.now walk.old }
-    requires kept { IsKept (record { graph = S.graph space.now; strategy = strategy.now; limit = limit }) book.old }
-    ensures takes { IfOk result (Advances (record { graph = S.graph space.now; strategy = strategy.now; limit = limit }) book.old book.new) }
+    requires kept { IsKept (task_by (S.graph space.now) strategy.now limit) book.old }
+    ensures takes { IfOk result (Advances (task_by (S.graph space.now) strategy.now limit) book.old book.new) }
     ensures floor { TakesFloor book.old.waiting floor.old floor.new }
     ensures owned { S.owns space.now walk.new }
 {

@@ -10,7 +10,7 @@ use Rattle.std.proofs.lemmas.List.Sums.{sum_by-cons}
 use Rattle.fc_position.specs.Board.{last_of, front_of}
 use Rattle.fc_position.specs.Tally.{AllCards}
 use Rattle.fc_bound.specs.Clearing.{waits, fee, without, cards_in, clearing_cost}
-use Rattle.fc_bound.specs.Knots.{has_last, waits_above, is_loose, is_in_knot, shed}
+use Rattle.fc_bound.specs.Knots.{has_last, waits_above, is_loose, is_in_knot, without_last_where}
 use Rattle.fc_bound.proofs.AboveLemmas.{not_true}
 use Rattle.fc_bound.proofs.HeldLemmas.{found, bit_most}
 use Rattle.fc_bound.proofs.ClearingLemmas.{cards_without, clearing_least}
@@ -44,7 +44,7 @@ one-loose columns before x xs free =
     ] refl
 
 all-loose : (columns before rest : List (List ℕ)) → ((o : Option ℕ) → waits columns o ≡ false → waits (before ++ rest) o ≡ false)
-    → clearing_cost (before ++ rest) ≤ count_by waits_above rest + clearing_cost (before ++ shed (is_loose columns) rest)
+    → clearing_cost (before ++ rest) ≤ count_by waits_above rest + clearing_cost (before ++ without_last_where (is_loose columns) rest)
 all-loose columns before [] free = omega arith
 all-loose columns before (x ∷ xs) free =
     let new : List ℕ = cond (is_loose columns x) (front_of x) x in
@@ -54,13 +54,13 @@ all-loose columns before (x ∷ xs) free =
     true≢false (sym (fronts-wait (before ++ new ∷ xs) (before ++ x ∷ xs) o (fronts-among before x (is_loose columns x) xs) waiting) ∙ free o idle)) in
     let later = all-loose columns (before ++ new ∷ []) xs fewer in
     let one : clearing_cost ((before ++ new ∷ []) ++ xs) ≡ clearing_cost (before ++ new ∷ xs) = ap clearing_cost (split xs) in
-    let all : clearing_cost ((before ++ new ∷ []) ++ shed (is_loose columns) xs) ≡ clearing_cost (before ++ new ∷ shed (is_loose columns) xs) =
-    ap clearing_cost (split (shed (is_loose columns) xs)) in
+    let all : clearing_cost ((before ++ new ∷ []) ++ without_last_where (is_loose columns) xs) ≡ clearing_cost (before ++ new ∷ without_last_where (is_loose columns) xs) =
+    ap clearing_cost (split (without_last_where (is_loose columns) xs)) in
     omega (arith, one-loose columns before x xs free, later, one, all, sum_by-cons (λ c. cond (waits_above c) 1 0) x xs)
 
 -- the loose cards go first, at their price
 pub loose_cost : (columns : List (List ℕ))
-    → clearing_cost columns ≡ count_by waits_above columns + clearing_cost (shed (is_loose columns) columns)
+    → clearing_cost columns ≡ count_by waits_above columns + clearing_cost (without_last_where (is_loose columns) columns)
 loose_cost columns = omega (
   arith,
   all-loose columns [] columns (λ o free. free),
@@ -69,7 +69,7 @@ loose_cost columns = omega (
 
 -- where some card is loose, fewer are left without the loose ones
 pub loose_fewer : (columns : List (List ℕ)) → list_any (is_loose columns) columns ≡ true
-    → 1 + cards_in (shed (is_loose columns) columns) ≤ cards_in columns
+    → 1 + cards_in (without_last_where (is_loose columns) columns) ≤ cards_in columns
 loose_fewer columns loose =
     let f = found (is_loose columns) columns loose in
     let x : List ℕ = get_or columns f.place [] in

@@ -8,7 +8,7 @@ use Rattle.std.proofs.lemmas.List.Sums.{sum_by-cons, get_or-le-sum_by}
 use Rattle.fc_cards.specs.Card.{rank, suit, all_cards}
 use Rattle.fc_cards.specs.declared.places.Place.{Place}
 use Rattle.fc_cards.specs.declared.places.Place.TheVariants.{Column, Cell, Home}
-use Rattle.fc_position.specs.Board.{Board, column, playable, lifted, placed, count_in_column, IsNext}
+use Rattle.fc_position.specs.Board.{Board, column, playable, board_without, board_with, count_in_column, IsNext}
 use Rattle.fc_position.specs.Position.{IsPosition, IsWon}
 use Rattle.fc_position.proofs.BoardLemmas.{playable_below, homes-lifted}
 use Rattle.fc_moves.specs.GameRules.{GameRules}
@@ -52,44 +52,44 @@ next_waits b u p next = not_true (waits b.columns (Some u)) (λ waiting.
 
 -- lifting a card saves no more than its fee, and placing one saves nothing
 cost-lifted : (b : Board) (from : Place) (u : ℕ) → playable b from ≡ Some u
-    → clearing_cost b.columns ≤ cond (waits b.columns (Some u)) 1 0 + clearing_cost (lifted b from).columns
+    → clearing_cost b.columns ≤ cond (waits b.columns (Some u)) 1 0 + clearing_cost (board_without b from).columns
 cost-lifted b (Column i) u last =
     let price : fee b.columns i ≡ cond (waits b.columns (Some u)) 1 0 = ap (λ o. cond (waits b.columns o) 1 0) last in
     omega (arith, price, cost-taken b.columns i)
 cost-lifted b (Cell i) u full = omega arith
 cost-lifted b Home u none = absurd (cc none)
 
-cost-placed : (b : Board) (u : ℕ) (to : Place) → clearing_cost b.columns ≤ clearing_cost (placed b u to).columns
+cost-placed : (b : Board) (u : ℕ) (to : Place) → clearing_cost b.columns ≤ clearing_cost (board_with b u to).columns
 cost-placed b u (Column j) =
-    cost-fronts b.columns (placed b u (Column j)).columns
+    cost-fronts b.columns (board_with b u (Column j)).columns
     (fronts-more b.columns b.columns j (column b j ++ u ∷ []) (fronts-same b.columns) (u ∷ [], refl))
 cost-placed b u (Cell j) = omega arith
 cost-placed b u Home = omega arith
 
 -- where the counts stay, as many cards are not home, and the card that moves saves one at most
 clearing-stays : (b : Board) (from : Place) (u : ℕ) (to : Place) → playable b from ≡ Some u
-    → (placed (lifted b from) u to).homes ≡ b.homes → clearing_bound b ≤ clearing_bound (placed (lifted b from) u to) + 1
+    → (board_with (board_without b from) u to).homes ≡ b.homes → clearing_bound b ≤ clearing_bound (board_with (board_without b from) u to) + 1
 unfolding clearing_bound
 clearing-stays b from u to there homes =
-    let away : count_by (is_away b) all_cards ≡ count_by (is_away (placed (lifted b from) u to)) all_cards =
+    let away : count_by (is_away b) all_cards ≡ count_by (is_away (board_with (board_without b from) u to)) all_cards =
     ap (λ h. count_by (λ x. nat_lt (slice_index h (suit x)) (rank x)) all_cards) (sym homes) in
-    omega (arith, away, cost-lifted b from u there, cost-placed (lifted b from) u to, bit_most (waits b.columns (Some u)))
+    omega (arith, away, cost-lifted b from u there, cost-placed (board_without b from) u to, bit_most (waits b.columns (Some u)))
 
 -- a card that goes home waits for none, and is home afterwards
 clearing-home : (b : Board) (from : Place) (u : ℕ) → IsPosition b → u < 52 → playable b from ≡ Some u → IsNext b.homes u
-    → clearing_bound b ≤ clearing_bound (placed (lifted b from) u Home) + 1
+    → clearing_bound b ≤ clearing_bound (board_with (board_without b from) u Home) + 1
 unfolding clearing_bound
 clearing-home b from u p below there next =
-    let away = count-but_one u (is_away b) (is_away (placed (lifted b from) u Home)) below
+    let away = count-but_one u (is_away b) (is_away (board_with (board_without b from) u Home)) below
     (λ c other. away-home b.homes u c p.homes next other
     ∙ ap (λ h. nat_lt (slice_index (set h (suit u) (rank u)) (suit c)) (rank c)) (sym (homes-lifted b from))) in
     let free : ◌≡◌ {A = ℕ} (cond (waits b.columns (Some u)) 1 0) 0 = ap (λ t. cond t 1 0) (next_waits b u p next) in
     let most = bit_most (is_away b u) in
-    omega (arith, away, free, most, cost-lifted b from u there, cost-placed (lifted b from) u Home)
+    omega (arith, away, free, most, cost-lifted b from u there, cost-placed (board_without b from) u Home)
 
 -- a step lowers the clearing bound by one at most
 clearing-moved : (g : GameRules) (b : Board) (from : Place) (u : ℕ) (to : Place) → IsPosition b → playable b from ≡ Some u
-    → Takes g b u to → clearing_bound b ≤ clearing_bound (placed (lifted b from) u to) + 1
+    → Takes g b u to → clearing_bound b ≤ clearing_bound (board_with (board_without b from) u to) + 1
 clearing-moved g b from u (Column j) p there takes = clearing-stays b from u (Column j) there (homes-lifted b from)
 clearing-moved g b from u (Cell j) p there takes = clearing-stays b from u (Cell j) there (homes-lifted b from)
 clearing-moved g b from u Home p there takes = clearing-home b from u p (playable_below b from u p there) there takes

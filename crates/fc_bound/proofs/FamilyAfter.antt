@@ -9,7 +9,7 @@ use Rattle.std.proofs.lemmas.Option.{slice_get-get_or}
 use Rattle.fc_cards.specs.Card.{rank, suit}
 use Rattle.fc_cards.specs.declared.places.Place.{Place}
 use Rattle.fc_cards.specs.declared.places.Place.TheVariants.{Column, Cell, Home}
-use Rattle.fc_position.specs.Board.{Board, column, playable, lifted, placed, last_of, IsNext}
+use Rattle.fc_position.specs.Board.{Board, column, playable, board_without, board_with, last_of, IsNext}
 use Rattle.fc_position.specs.Position.{IsPosition}
 use Rattle.fc_position.proofs.BoardLemmas.{playable_below, homes-lifted}
 use Rattle.fc_moves.specs.declared.steps.Move.{Move}
@@ -34,23 +34,23 @@ After kind x number note less = (n : ℕ) × IsShown kind x n note × (number �
 
 lift_column : (kind : BoundKind) (b : Board) (i u number note : ℕ) (r : Bool) → IsPosition b → last_of (column b i) ≡ Some u
     → (r ≡ false → is_held_back b u ≡ false) → (r ≡ false → kind ≡ Clearing → bit_at note u ≡ 0) → IsShown kind b number note
-    → After kind (lifted b (Column i)) number note (cond r 1 0)
+    → After kind (board_without b (Column i)) number note (cond r 1 0)
 lift_column kind b i u number note false p last held noted shown =
     (number, lift_free kind b i u number note p last (held refl) (noted refl) shown, omega arith)
 lift_column Plain b i u number note true p last held noted shown =
     let most = bit_most (is_held_back b u) in
-    (bound (lifted b (Column i)), refl, omega (arith, shown, bound_lifted b i u p last, most))
+    (bound (board_without b (Column i)), refl, omega (arith, shown, bound_lifted b i u p last, most))
   where
     bit_most : (t : Bool) → cond t 1 0 ≤ 1
     bit_most true = omega arith
     bit_most false = omega arith
 lift_column Clearing b i u number note true p last held noted (rings, family, is) =
-    elim (is_held_back b u) as (λ t. is_held_back b u ≡ t → After Clearing (lifted b (Column i)) number note 1) [
+    elim (is_held_back b u) as (λ t. is_held_back b u ≡ t → After Clearing (board_without b (Column i)) number note 1) [
       | true ↦ λ e. (number - 1, lift_held Clearing b i u number note p last e (rings, family, is), omega arith)
       | false ↦ λ e.
           let w = without_card b.columns note u rings family in
           let none : ◌≡◌ {A = ℕ} (cond (is_held_back b u) 1 0) 0 = ap (λ t. cond t 1 0) e in (
-            bound (lifted b (Column i)) + length w.rest,
+            bound (board_without b (Column i)) + length w.rest,
             (w.rest, family_without b.columns i u note w.rest last w.outside w.family, refl),
             omega (arith, is, w.fewer, bound_lifted b i u p last, none),
           )
@@ -58,52 +58,52 @@ lift_column Clearing b i u number note true p last held noted (rings, family, is
 
 pub after_lift : (kind : BoundKind) (b : Board) (from : Place) (u number note : ℕ) (r : Bool) → IsPosition b → playable b from ≡ Some u
     → (r ≡ false → is_held_back b u ≡ false) → (r ≡ false → kind ≡ Clearing → bit_at note u ≡ 0) → IsShown kind b number note
-    → After kind (lifted b from) number note (cond r 1 0)
+    → After kind (board_without b from) number note (cond r 1 0)
 after_lift kind b (Column i) u number note r p there held noted shown = lift_column kind b i u number note r p there held noted shown
 after_lift kind b (Cell i) u number note r p there held noted shown = (number, shown_cell kind b i number note shown, omega arith)
 after_lift kind b Home u number note r p there held noted shown = absurd (cc there)
 
 -- where a move leads that takes the card not home, one more is shown where the card is held back
 pub after_put : (kind : BoundKind) (g : GameRules) (b z : Board) (m : Move) (u number note : ℕ) (step : Step g b m z) → IsPosition b
-    → step.card ≡ u → m.to ≢ Home → IsShown kind (lifted b m.from) number note → IsShown kind z (number + cond (is_held_back z u) 1 0) note
+    → step.card ≡ u → m.to ≢ Home → IsShown kind (board_without b m.from) number note → IsShown kind z (number + cond (is_held_back z u) 1 0) note
 after_put kind g b z m u number note step p is away shown = go m.to refl
   where
     go : (to : Place) → m.to ≡ to → IsShown kind z (number + cond (is_held_back z u) 1 0) note
     go (Column j) at =
-        let x : Board = lifted b m.from in
+        let x : Board = board_without b m.from in
         let takes : Takes g b step.card (Column j) = subst (Takes g b step.card) at step.takes in
-        let after : placed x step.card (Column j) ≡ z = sym (step.after ∙ ap (λ (t : Place). placed x step.card t) at) in
+        let after : board_with x step.card (Column j) ≡ z = sym (step.after ∙ ap (λ (t : Place). board_with x step.card t) at) in
         let put = step_put g b z m j u step p is at in
         land kind z j u number note (step_position g b z m p step) put.0
-        (subst (λ (y : Board). IsShown kind (lifted y (Column j)) number note) after
-        (shown_same kind x (lifted (placed x step.card (Column j)) (Column j)) number note
+        (subst (λ (y : Board). IsShown kind (board_without y (Column j)) number note) after
+        (shown_same kind x (board_without (board_with x step.card (Column j)) (Column j)) number note
         (sym (put_back x.columns j step.card (omega (arith, takes.0, long_lifted b m.from)))) refl shown))
     go (Cell j) at =
-        let x : Board = lifted b m.from in
-        let after : placed x step.card (Cell j) ≡ z = sym (step.after ∙ ap (λ (t : Place). placed x step.card t) at) in
+        let x : Board = board_without b m.from in
+        let after : board_with x step.card (Cell j) ≡ z = sym (step.after ∙ ap (λ (t : Place). board_with x step.card t) at) in
         let free : false ≡ is_held_back z u = other_held g b z m u step p is away (λ k e. absurd (cc (sym at ∙ e))) in
         let same : number ≡ number + cond (is_held_back z u) 1 0 = sym (add-zero number) ∙ ap (λ t. number + cond t 1 0) free in
         subst (λ n. IsShown kind z n note) same
         (subst (λ (y : Board). IsShown kind y number note) after
-        (shown_same kind x (placed x step.card (Cell j)) number note refl refl shown))
+        (shown_same kind x (board_with x step.card (Cell j)) number note refl refl shown))
     go Home at = absurd (away at)
 
 -- a card that goes home is one less
 bound_home : (b : Board) (from : Place) (u : ℕ) → IsPosition b → playable b from ≡ Some u → IsNext b.homes u
-    → bound (lifted b from) ≡ bound (placed (lifted b from) u Home) + 1
+    → bound (board_without b from) ≡ bound (board_with (board_without b from) u Home) + 1
 unfolding bound
 bound_home b from u p there next =
     let homes = homes-lifted b from in
     let below = playable_below b from u p there in
-    let same = count-same (is_away (lifted b from)) (is_away b) (λ c _. ap (λ h. nat_lt (slice_index h (suit c)) (rank c)) homes) in
-    let away = count-but_one u (is_away b) (is_away (placed (lifted b from) u Home)) below
+    let same = count-same (is_away (board_without b from)) (is_away b) (λ c _. ap (λ h. nat_lt (slice_index h (suit c)) (rank c)) homes) in
+    let away = count-but_one u (is_away b) (is_away (board_with (board_without b from) u Home)) below
     (λ c other. away-home b.homes u c p.homes next other
     ∙ ap (λ h. nat_lt (slice_index (set h (suit u) (rank u)) (suit c)) (rank c)) (sym homes)) in
     let before : ◌≡◌ {A = ℕ} (cond (is_away b u) 1 0) 1 = ap (λ t. cond t 1 0) (lower (slice_index b.homes (suit u)) (rank u) next) in
-    let home : slice_index (lifted b from).homes (suit u) ≡ slice_index b.homes (suit u) = ap (λ h. slice_index h (suit u)) homes in
-    let here : slice_index (set (lifted b from).homes (suit u) (rank u)) (suit u) ≡ rank u =
-    get_or-set_same (lifted b from).homes (suit u) (rank u) 0 (omega (arith, ap length homes, p.homes)) in
-    let after : ◌≡◌ {A = ℕ} (cond (is_away (placed (lifted b from) u Home) u) 1 0) 0 =
+    let home : slice_index (board_without b from).homes (suit u) ≡ slice_index b.homes (suit u) = ap (λ h. slice_index h (suit u)) homes in
+    let here : slice_index (set (board_without b from).homes (suit u) (rank u)) (suit u) ≡ rank u =
+    get_or-set_same (board_without b from).homes (suit u) (rank u) 0 (omega (arith, ap length homes, p.homes)) in
+    let after : ◌≡◌ {A = ℕ} (cond (is_away (board_with (board_without b from) u Home) u) 1 0) 0 =
     ap (λ n. cond (nat_lt n (rank u)) 1 0) here ∙ ap (λ t. cond t 1 0) (same_rank (rank u)) in
     omega (arith, same, away, before, after)
   where
@@ -113,38 +113,38 @@ bound_home b from u p there next =
     same_rank : (r : ℕ) → nat_lt r r ≡ false
     same_rank r = grind (arith, nat_tests)
 
-home_shown : (kind : BoundKind) (x : Board) (u number note : ℕ) → bound x ≡ bound (placed x u Home) + 1 → IsShown kind x number note
-    → IsShown kind (placed x u Home) (number - 1) note
+home_shown : (kind : BoundKind) (x : Board) (u number note : ℕ) → bound x ≡ bound (board_with x u Home) + 1 → IsShown kind x number note
+    → IsShown kind (board_with x u Home) (number - 1) note
 home_shown Plain x u number note less shown = omega (arith, less, shown)
 home_shown Clearing x u number note less (rings, family, is) = (rings, family, omega (arith, less, is))
 
 pub after_home : (kind : BoundKind) (g : GameRules) (b z : Board) (m : Move) (u number note : ℕ) (step : Step g b m z) → IsPosition b
-    → step.card ≡ u → m.to ≡ Home → IsShown kind (lifted b m.from) number note → IsShown kind z (number - 1) note
+    → step.card ≡ u → m.to ≡ Home → IsShown kind (board_without b m.from) number note → IsShown kind z (number - 1) note
 after_home kind g b z m u number note step p is at shown =
-    let x : Board = lifted b m.from in
+    let x : Board = board_without b m.from in
     let next : IsNext b.homes step.card = subst (Takes g b step.card) at step.takes in
-    let after : placed x step.card Home ≡ z = sym (step.after ∙ ap (λ (t : Place). placed x step.card t) at) in
+    let after : board_with x step.card Home ≡ z = sym (step.after ∙ ap (λ (t : Place). board_with x step.card t) at) in
     subst (λ (y : Board). IsShown kind y (number - 1) note) after
     (home_shown kind x step.card number note (bound_home b m.from step.card p step.playable next) shown)
 
 -- without the card the same is shown where it went as where it was
 pub lifted_there : (kind : BoundKind) (g : GameRules) (b z : Board) (m : Move) (number note : ℕ) → Step g b m z → m.to ≢ Home
-    → IsShown kind (lifted b m.from) number note → IsShown kind (lifted z m.to) number note
+    → IsShown kind (board_without b m.from) number note → IsShown kind (board_without z m.to) number note
 lifted_there kind g b z m number note step away shown = go m.to refl
   where
-    go : (to : Place) → m.to ≡ to → IsShown kind (lifted z to) number note
+    go : (to : Place) → m.to ≡ to → IsShown kind (board_without z to) number note
     go (Column j) at =
-        let x : Board = lifted b m.from in
+        let x : Board = board_without b m.from in
         let takes : Takes g b step.card (Column j) = subst (Takes g b step.card) at step.takes in
-        let after : placed x step.card (Column j) ≡ z = sym (step.after ∙ ap (λ (t : Place). placed x step.card t) at) in
-        subst (λ (y : Board). IsShown kind (lifted y (Column j)) number note) after
-        (shown_same kind x (lifted (placed x step.card (Column j)) (Column j)) number note
+        let after : board_with x step.card (Column j) ≡ z = sym (step.after ∙ ap (λ (t : Place). board_with x step.card t) at) in
+        subst (λ (y : Board). IsShown kind (board_without y (Column j)) number note) after
+        (shown_same kind x (board_without (board_with x step.card (Column j)) (Column j)) number note
         (sym (put_back x.columns j step.card (omega (arith, takes.0, long_lifted b m.from)))) refl shown)
     go (Cell j) at =
-        let x : Board = lifted b m.from in
-        let after : placed x step.card (Cell j) ≡ z = sym (step.after ∙ ap (λ (t : Place). placed x step.card t) at) in
-        subst (λ (y : Board). IsShown kind (lifted y (Cell j)) number note) after
-        (shown_same kind x (lifted (placed x step.card (Cell j)) (Cell j)) number note refl refl shown)
+        let x : Board = board_without b m.from in
+        let after : board_with x step.card (Cell j) ≡ z = sym (step.after ∙ ap (λ (t : Place). board_with x step.card t) at) in
+        subst (λ (y : Board). IsShown kind (board_without y (Cell j)) number note) after
+        (shown_same kind x (board_without (board_with x step.card (Cell j)) (Cell j)) number note refl refl shown)
     go Home at = absurd (away at)
 
 -- a card that is put on another is held back where it waits beneath that one, by its row, and on none it isn't

@@ -6,7 +6,7 @@ use Rattle.std.specs.Int.{bit_at}
 use Rattle.std.proofs.lemmas.Nat.Bits.{bit_at_and, bit_at_mask_inside}
 use Rattle.fc_cards.specs.declared.places.Place.{Place}
 use Rattle.fc_cards.specs.declared.places.Place.TheVariants.{Column, Cell, Home}
-use Rattle.fc_position.specs.Board.{Board, playable, lifted}
+use Rattle.fc_position.specs.Board.{Board, playable, board_without}
 use Rattle.fc_position.specs.Position.{IsPosition}
 use Rattle.fc_bound.specs.declared.kinds.BoundKind.{BoundKind}
 use Rattle.fc_bound.specs.declared.kinds.BoundKind.TheVariants.{Plain, Clearing}
@@ -20,16 +20,16 @@ use Rattle.fc_bound.proofs.MovedLemmas.{held-cell}
 -- once a card is lifted that is held back, or that isn't noted, what is shown is plain to see
 pub lift_known : (kind : BoundKind) (b : Board) (from : Place) (u number note kept : ℕ) (held noted : Bool) → IsPosition b → playable b from ≡ Some u
     → held ≡ is_held_back b u → (noted ≡ false → kind ≡ Clearing → bit_at note u ≡ 0) → ((noted ≡ true) × (held ≡ true)) ⊎ (noted ≡ false)
-    → kept ≡ number - bool_byte held → IsShown kind b number note → IsShown kind (lifted b from) kept note
+    → kept ≡ number - bool_byte held → IsShown kind b number note → IsShown kind (board_without b from) kept note
 lift_known kind b (Column i) u number note kept true noted p there tells out either is shown =
-    subst (λ n. IsShown kind (lifted b (Column i)) n note) (sym is) (lift_held kind b i u number note p there (sym tells) shown)
+    subst (λ n. IsShown kind (board_without b (Column i)) n note) (sym is) (lift_held kind b i u number note p there (sym tells) shown)
 lift_known kind b (Column i) u number note kept false noted p there tells out (inl both) is shown = absurd (true≢false (sym both.1))
 lift_known kind b (Column i) u number note kept false noted p there tells out (inr none) is shown =
-    subst (λ n. IsShown kind (lifted b (Column i)) n note) (omega (arith, is))
+    subst (λ n. IsShown kind (board_without b (Column i)) n note) (omega (arith, is))
     (lift_free kind b i u number note p there (sym tells) (out none) shown)
 lift_known kind b (Cell i) u number note kept held noted p there tells out either is shown =
     let none : ◌≡◌ {A = ℕ} (bool_byte held) 0 = ap bool_byte (tells ∙ held-cell b i u p there) in
-    subst (λ n. IsShown kind (lifted b (Cell i)) n note) (omega (arith, is, none)) (shown_cell kind b i number note shown)
+    subst (λ n. IsShown kind (board_without b (Cell i)) n note) (omega (arith, is, none)) (shown_cell kind b i number note shown)
 lift_known kind b Home u number note kept held noted p there tells out either is shown = absurd (cc there)
 
 -- of a note the bits of cards alone count

@@ -10,7 +10,7 @@ use Rattle.std.proofs.lemmas.List.Folds.{list_any_at}
 use Rattle.fc_cards.specs.Card.{rank, suit, all_cards}
 use Rattle.fc_cards.specs.declared.places.Place.{Place}
 use Rattle.fc_cards.specs.declared.places.Place.TheVariants.{Column, Cell, Home}
-use Rattle.fc_position.specs.Board.{Board, column, lifted, front_of, last_of}
+use Rattle.fc_position.specs.Board.{Board, column, board_without, front_of, last_of}
 use Rattle.fc_position.specs.Position.{IsPosition}
 use Rattle.fc_position.proofs.BoardLemmas.{front_last, playable_below}
 use Rattle.fc_bound.specs.declared.kinds.BoundKind.{BoundKind}
@@ -153,21 +153,21 @@ stands_without columns i c stands =
     (ap (λ y. stands_in y c) (sym (get_or-set_other columns i f.place (front_of x) [] ne)) ∙ f.passes))
     (cases_eq f.place i)
 
-pub lifted_below : (b : Board) (from : Place) (c : ℕ) → IsPosition b → stands_among (lifted b from).columns c ≡ true → c < 52
+pub lifted_below : (b : Board) (from : Place) (c : ℕ) → IsPosition b → stands_among (board_without b from).columns c ≡ true → c < 52
 lifted_below b (Column i) c p stands = stands_below b c p (stands_without b.columns i c stands)
 lifted_below b (Cell i) c p stands = stands_below b c p stands
 lifted_below b Home c p stands = stands_below b c p stands
 
 -- the bound without a card is less where the card is held back
 pub bound_lifted : (b : Board) (i u : ℕ) → IsPosition b → last_of (column b i) ≡ Some u
-    → bound b ≡ bound (lifted b (Column i)) + cond (is_held_back b u) 1 0
+    → bound b ≡ bound (board_without b (Column i)) + cond (is_held_back b u) 1 0
 unfolding bound
 bound_lifted b i u p last =
     let below : u < 52 = playable_below b (Column i) u p last in
-    let none : ◌≡◌ {A = ℕ} (cond (is_held_back (lifted b (Column i)) u) 1 0) 0 = ap (λ t. cond t 1 0) (lifted_free b i u p last) in
+    let none : ◌≡◌ {A = ℕ} (cond (is_held_back (board_without b (Column i)) u) 1 0) 0 = ap (λ t. cond t 1 0) (lifted_free b i u p last) in
     omega (
       arith,
-      count-but_one u (is_held_back (lifted b (Column i))) (is_held_back b) below
+      count-but_one u (is_held_back (board_without b (Column i))) (is_held_back b) below
           (λ c other. held-lifted b (Column i) u c last (λ e. other (sym e))),
       none,
     )
@@ -185,7 +185,7 @@ shown_same Clearing x y number note columns homes (rings, family, is) =
 
 -- lifted where it is held back, and where it is in no ring and not held back
 pub lift_held : (kind : BoundKind) (b : Board) (i u number note : ℕ) → IsPosition b → last_of (column b i) ≡ Some u → is_held_back b u ≡ true
-    → IsShown kind b number note → IsShown kind (lifted b (Column i)) (number - 1) note
+    → IsShown kind b number note → IsShown kind (board_without b (Column i)) (number - 1) note
 lift_held Plain b i u number note p last held shown =
     let one : ◌≡◌ {A = ℕ} (cond (is_held_back b u) 1 0) 1 = ap (λ t. cond t 1 0) held in
     omega (arith, shown, bound_lifted b i u p last, one)
@@ -197,7 +197,7 @@ lift_held Clearing b i u number note p last held (rings, family, is) =
     )
 
 pub lift_free : (kind : BoundKind) (b : Board) (i u number note : ℕ) → IsPosition b → last_of (column b i) ≡ Some u → is_held_back b u ≡ false
-    → (kind ≡ Clearing → bit_at note u ≡ 0) → IsShown kind b number note → IsShown kind (lifted b (Column i)) number note
+    → (kind ≡ Clearing → bit_at note u ≡ 0) → IsShown kind b number note → IsShown kind (board_without b (Column i)) number note
 lift_free Plain b i u number note p last free outside shown =
     let none : ◌≡◌ {A = ℕ} (cond (is_held_back b u) 1 0) 0 = ap (λ t. cond t 1 0) free in
     omega (arith, shown, bound_lifted b i u p last, none)
@@ -210,7 +210,7 @@ lift_free Clearing b i u number note p last free outside (rings, family, is) =
 
 -- put back, it adds one where it is held back
 pub land : (kind : BoundKind) (b : Board) (i u number note : ℕ) → IsPosition b → last_of (column b i) ≡ Some u
-    → IsShown kind (lifted b (Column i)) number note → IsShown kind b (number + cond (is_held_back b u) 1 0) note
+    → IsShown kind (board_without b (Column i)) number note → IsShown kind b (number + cond (is_held_back b u) 1 0) note
 land Plain b i u number note p last shown = omega (arith, shown, bound_lifted b i u p last)
 land Clearing b i u number note p last (rings, family, is) =
     let lack : Lack u rings = λ k d inside here.
@@ -218,39 +218,39 @@ land Clearing b i u number note p last (rings, family, is) =
     (rings, family_with b.columns i u note rings last lack family, omega (arith, is, bound_lifted b i u p last))
 
 -- a card in a cell changes nothing
-pub shown_cell : (kind : BoundKind) (b : Board) (i number note : ℕ) → IsShown kind b number note → IsShown kind (lifted b (Cell i)) number note
-shown_cell kind b i number note shown = shown_same kind b (lifted b (Cell i)) number note refl refl shown
+pub shown_cell : (kind : BoundKind) (b : Board) (i number note : ℕ) → IsShown kind b number note → IsShown kind (board_without b (Cell i)) number note
+shown_cell kind b i number note shown = shown_same kind b (board_without b (Cell i)) number note refl refl shown
 
-pub cell_shown : (kind : BoundKind) (b : Board) (i number note : ℕ) → IsShown kind (lifted b (Cell i)) number note → IsShown kind b number note
-cell_shown kind b i number note shown = shown_same kind (lifted b (Cell i)) b number note refl refl shown
+pub cell_shown : (kind : BoundKind) (b : Board) (i number note : ℕ) → IsShown kind (board_without b (Cell i)) number note → IsShown kind b number note
+cell_shown kind b i number note shown = shown_same kind (board_without b (Cell i)) b number note refl refl shown
 
 pub land_held : (kind : BoundKind) (b : Board) (i u number note : ℕ) → IsPosition b → last_of (column b i) ≡ Some u → is_held_back b u ≡ true
-    → IsShown kind (lifted b (Column i)) number note → IsShown kind b (number + 1) note
+    → IsShown kind (board_without b (Column i)) number note → IsShown kind b (number + 1) note
 land_held kind b i u number note p last held shown =
     subst (λ t. IsShown kind b (number + cond t 1 0) note) held (land kind b i u number note p last shown)
 
 pub land_free : (kind : BoundKind) (b : Board) (i u number note : ℕ) → IsPosition b → last_of (column b i) ≡ Some u → is_held_back b u ≡ false
-    → IsShown kind (lifted b (Column i)) number note → IsShown kind b number note
+    → IsShown kind (board_without b (Column i)) number note → IsShown kind b number note
 land_free kind b i u number note p last free shown =
     let none : number + cond (is_held_back b u) 1 0 ≡ number = ap (λ t. number + cond t 1 0) free ∙ add-zero number in
     subst (λ n. IsShown kind b n note) none (land kind b i u number note p last shown)
 
 -- where a column has no card
 pub shown_none : (kind : BoundKind) (b : Board) (i number note : ℕ) → last_of (column b i) ≡ None → IsShown kind b number note
-    → IsShown kind (lifted b (Column i)) number note
-shown_none kind b i number note none shown = shown_same kind b (lifted b (Column i)) number note (sym (none_lifted b.columns i none)) refl shown
+    → IsShown kind (board_without b (Column i)) number note
+shown_none kind b i number note none shown = shown_same kind b (board_without b (Column i)) number note (sym (none_lifted b.columns i none)) refl shown
 
-pub none_shown : (kind : BoundKind) (b : Board) (i number note : ℕ) → last_of (column b i) ≡ None → IsShown kind (lifted b (Column i)) number note
+pub none_shown : (kind : BoundKind) (b : Board) (i number note : ℕ) → last_of (column b i) ≡ None → IsShown kind (board_without b (Column i)) number note
     → IsShown kind b number note
-none_shown kind b i number note none shown = shown_same kind (lifted b (Column i)) b number note (none_lifted b.columns i none) refl shown
+none_shown kind b i number note none shown = shown_same kind (board_without b (Column i)) b number note (none_lifted b.columns i none) refl shown
 
 -- what is shown is small, with and without a card
 pub small : (kind : BoundKind) (b : Board) (number note : ℕ) → IsPosition b → IsShown kind b number note → number ≤ 104
 small kind b number note p shown = shown_small kind b number note (λ c stands. stands_below b c p stands) shown
 
-pub small_lifted : (kind : BoundKind) (b : Board) (from : Place) (number note : ℕ) → IsPosition b → IsShown kind (lifted b from) number note
+pub small_lifted : (kind : BoundKind) (b : Board) (from : Place) (number note : ℕ) → IsPosition b → IsShown kind (board_without b from) number note
     → number ≤ 104
-small_lifted kind b from number note p shown = shown_small kind (lifted b from) number note (λ c stands. lifted_below b from c p stands) shown
+small_lifted kind b from number note p shown = shown_small kind (board_without b from) number note (λ c stands. lifted_below b from c p stands) shown
 
 -- one place has one last card
 pub one_last : (b : Board) (i j u : ℕ) → IsPosition b → last_of (column b i) ≡ Some u → last_of (column b j) ≡ Some u → i ≡ j

@@ -7,7 +7,7 @@ use Rattle.std.proofs.lemmas.List.{get_or-set_same, length-set, length_push, set
 use Rattle.fc_cards.specs.Card.{rank, suit, all_cards}
 use Rattle.fc_cards.specs.declared.places.Place.{Place}
 use Rattle.fc_cards.specs.declared.places.Place.TheVariants.{Column, Cell, Home}
-use Rattle.fc_position.specs.Board.{Board, column, cell, playable, lifted, placed, front_of, last_of}
+use Rattle.fc_position.specs.Board.{Board, column, cell, playable, board_without, board_with, front_of, last_of}
 use Rattle.fc_position.specs.Position.{IsPosition}
 use Rattle.fc_position.proofs.BoardLemmas.{cards_most}
 use Rattle.fc_moves.specs.declared.steps.Move.{Move}
@@ -41,7 +41,7 @@ guide_small Clearing b p = omega (
 )
 
 -- a card that stands above a lower one of its suit in its column adds one
-pub fare_held : (b : Board) (i : ℕ) → IsPosition b → PlayableIsHeldBack b (Column i) → knot_bound b ≡ 1 + knot_bound (lifted b (Column i))
+pub fare_held : (b : Board) (i : ℕ) → IsPosition b → PlayableIsHeldBack b (Column i) → knot_bound b ≡ 1 + knot_bound (board_without b (Column i))
 unfolding knot_bound
 fare_held b i p (u, last, held) =
     let x : List ℕ = column b i in
@@ -52,7 +52,7 @@ fare_held b i p (u, last, held) =
     omega (arith, taken, one)
 
 -- a card that isn't in a column adds nothing
-pub fare_cell : (b : Board) (i : ℕ) → knot_bound b ≡ knot_bound (lifted b (Cell i))
+pub fare_cell : (b : Board) (i : ℕ) → knot_bound b ≡ knot_bound (board_without b (Cell i))
 unfolding knot_bound
 fare_cell b i = refl
 
@@ -75,37 +75,37 @@ put_back columns j u inside =
     ∙ ap (λ (x : List ℕ). set columns j (front_of x)) (get_or-set_same columns j (own ++ u ∷ []) [] inside)
     ∙ ap (λ (x : List ℕ). set columns j x) (take_at own (u ∷ []) (length (own ++ u ∷ []) - 1) (omega (arith, more))) ∙ set-get_or columns j []
 
-pub long_lifted : (b : Board) (from : Place) → length (lifted b from).columns ≡ length b.columns
+pub long_lifted : (b : Board) (from : Place) → length (board_without b from).columns ≡ length b.columns
 long_lifted b (Column i) = length-set b.columns i (front_of (column b i))
 long_lifted b (Cell i) = refl
 long_lifted b Home = refl
 
 -- without the card that was moved the bound is the same before and after
 pub guide_lifted : (kind : BoundKind) (g : GameRules) (b z : Board) (m : Move) → Step g b m z → m.to ≢ Home
-    → guide_of kind (lifted b m.from) ≡ guide_of kind (lifted z m.to)
+    → guide_of kind (board_without b m.from) ≡ guide_of kind (board_without z m.to)
 guide_lifted kind g b z m step away =
-    go m.to step.takes away ∙ ap (λ (x : Board). guide_of kind (lifted x m.to)) (sym step.after)
+    go m.to step.takes away ∙ ap (λ (x : Board). guide_of kind (board_without x m.to)) (sym step.after)
   where
     go : (to : Place) → Takes g b step.card to → to ≢ Home
-        → guide_of kind (lifted b m.from) ≡ guide_of kind (lifted (placed (lifted b m.from) step.card to) to)
+        → guide_of kind (board_without b m.from) ≡ guide_of kind (board_without (board_with (board_without b m.from) step.card to) to)
     go (Column j) takes away =
-        let x : Board = lifted b m.from in
-        guide_same kind x (lifted (placed x step.card (Column j)) (Column j))
+        let x : Board = board_without b m.from in
+        guide_same kind x (board_without (board_with x step.card (Column j)) (Column j))
         (sym (put_back x.columns j step.card (omega (arith, takes.0, long_lifted b m.from)))) refl
     go (Cell j) takes away =
-        let x : Board = lifted b m.from in guide_same kind x (lifted (placed x step.card (Cell j)) (Cell j)) refl refl
+        let x : Board = board_without b m.from in guide_same kind x (board_without (board_with x step.card (Cell j)) (Cell j)) refl refl
     go Home takes away = absurd (away refl)
 
-pub long_cells : (b : Board) (from : Place) → length (lifted b from).cells ≡ length b.cells
+pub long_cells : (b : Board) (from : Place) → length (board_without b from).cells ≡ length b.cells
 long_cells b (Column i) = refl
 long_cells b (Cell i) = length-set b.cells i None
 long_cells b Home = refl
 
 -- a card that was put on a column is its last, and is held back where a lower one of its suit stood there
-put_there : (b z : Board) (from : Place) (j u : ℕ) → IsPosition z → z ≡ placed (lifted b from) u (Column j) → Joins from (Column j)
+put_there : (b z : Board) (from : Place) (j u : ℕ) → IsPosition z → z ≡ board_with (board_without b from) u (Column j) → Joins from (Column j)
     → j < length b.columns → (last_of (column z j) ≡ Some u) × (is_held_back z u ≡ list_any (is_lower u) (column b j))
 put_there b z from j u p after joins inside =
-    let x : Board = lifted b from in
+    let x : Board = board_without b from in
     let there : column z j ≡ column b j ++ u ∷ [] =
     ap (λ (y : Board). column y j) after
     ∙ get_or-set_same x.columns j (column x j ++ u ∷ []) [] (omega (arith, inside, long_lifted b from))
@@ -118,7 +118,7 @@ pub step_put : (g : GameRules) (b z : Board) (m : Move) (j u : ℕ) (step : Step
     → (last_of (column z j) ≡ Some u) × (is_held_back z u ≡ list_any (is_lower u) (column b j))
 step_put g b z m j u step p is at =
     put_there b z m.from j u (step_position g b z m p step)
-    (step.after ∙ ap (λ (t : Place). placed (lifted b m.from) step.card t) at ∙ ap (λ (c : ℕ). placed (lifted b m.from) c (Column j)) is)
+    (step.after ∙ ap (λ (t : Place). board_with (board_without b m.from) step.card t) at ∙ ap (λ (c : ℕ). board_with (board_without b m.from) c (Column j)) is)
     (subst (Joins m.from) at step.joins) (subst (Takes g b step.card) at step.takes).0
 
 pub column_held : (g : GameRules) (b z : Board) (m : Move) (j u : ℕ) (step : Step g b m z) → IsPosition b → step.card ≡ u → m.to ≡ Column j
@@ -133,10 +133,10 @@ held_there g b z m j u step p is at lower =
     let put = step_put g b z m j u step p is at in (u, put.0, put.1 ∙ lower)
 
 -- a card that was put into a cell is there
-pub put_in : (b z : Board) (from : Place) (j u : ℕ) → z ≡ placed (lifted b from) u (Cell j) → j < length b.cells → cell z j ≡ Some u
+pub put_in : (b z : Board) (from : Place) (j u : ℕ) → z ≡ board_with (board_without b from) u (Cell j) → j < length b.cells → cell z j ≡ Some u
 put_in b z from j u after inside =
     ap (λ (y : Board). cell y j) after
-    ∙ get_or-set_same (lifted b from).cells j (Some u) None (omega (arith, inside, long_cells b from))
+    ∙ get_or-set_same (board_without b from).cells j (Some u) None (omega (arith, inside, long_cells b from))
 
 -- where a step leads that takes a card neither home nor to a column, the card isn't held back
 pub other_held : (g : GameRules) (b z : Board) (m : Move) (u : ℕ) (step : Step g b m z) → IsPosition b → step.card ≡ u → m.to ≢ Home
@@ -148,7 +148,7 @@ other_held g b z m u step p is away other = go m.to refl
     go (Cell j) at =
         let takes : Takes g b step.card (Cell j) = subst (Takes g b step.card) at step.takes in
         sym (held-cell z j u (step_position g b z m p step) (put_in b z m.from j u
-        (step.after ∙ ap (λ (t : Place). placed (lifted b m.from) step.card t) at ∙ ap (λ (c : ℕ). placed (lifted b m.from) c (Cell j)) is)
+        (step.after ∙ ap (λ (t : Place). board_with (board_without b m.from) step.card t) at ∙ ap (λ (c : ℕ). board_with (board_without b m.from) c (Cell j)) is)
         takes.1))
     go Home at = absurd (away at)
 

@@ -11,7 +11,7 @@ use Rattle.std.proofs.lemmas.List.Sorted.{list_any-IsPermutation}
 use Rattle.fc_cards.specs.Card.{rank, suit, all_cards}
 use Rattle.fc_cards.specs.declared.places.Place.{Place}
 use Rattle.fc_cards.specs.declared.places.Place.TheVariants.{Column, Cell, Home}
-use Rattle.fc_position.specs.Board.{Board, column, home, playable, lifted, placed, front_of, count_in_column, count_at_home, IsNext}
+use Rattle.fc_position.specs.Board.{Board, column, home, playable, board_without, board_with, front_of, count_in_column, count_at_home, IsNext}
 use Rattle.fc_position.specs.Position.{IsPosition, IsWon}
 use Rattle.fc_position.proofs.BoardLemmas.{front_last, playable_below, places_most, position-moved, homes-lifted}
 use Rattle.fc_moves.specs.declared.steps.Move.{Move}
@@ -48,21 +48,21 @@ any-set test (x ∷ xs) (suc i) new same = ap (λ t. test x || t) (any-set test 
 
 -- a card that is lifted or placed changes for no other card whether it is held back
 pub held-lifted : (b : Board) (from : Place) (u c : ℕ) → playable b from ≡ Some u → u ≢ c
-    → is_held_back (lifted b from) c ≡ is_held_back b c
+    → is_held_back (board_without b from) c ≡ is_held_back b c
 held-lifted b (Column i) u c last other =
     any-set (is_above_lower c) b.columns i (front_of (column b i))
     (sym (above-other c u (front_of (column b i)) other) ∙ ap (is_above_lower c) (sym (front_last (column b i) u last)))
 held-lifted b (Cell i) u c full other = refl
 held-lifted b Home u c none other = refl
 
-held-placed : (b : Board) (u : ℕ) (to : Place) (c : ℕ) → u ≢ c → is_held_back (placed b u to) c ≡ is_held_back b c
+held-placed : (b : Board) (u : ℕ) (to : Place) (c : ℕ) → u ≢ c → is_held_back (board_with b u to) c ≡ is_held_back b c
 held-placed b u (Column j) c other = any-set (is_above_lower c) b.columns j (column b j ++ u ∷ []) (above-other c u (column b j) other)
 held-placed b u (Cell j) c other = refl
 held-placed b u Home c other = refl
 
 held-moved : (b : Board) (from : Place) (u : ℕ) (to : Place) (c : ℕ) → playable b from ≡ Some u → u ≢ c
-    → is_held_back b c ≡ is_held_back (placed (lifted b from) u to) c
-held-moved b from u to c there other = sym (held-placed (lifted b from) u to c other ∙ held-lifted b from u c there other)
+    → is_held_back b c ≡ is_held_back (board_with (board_without b from) u to) c
+held-moved b from u to c there other = sym (held-placed (board_without b from) u to c other ∙ held-lifted b from u c there other)
 
 -- a card in a column is not home
 pub column_away : (b : Board) (i c : ℕ) → IsPosition b → i < length b.columns → stands_in (column b i) c ≡ true
@@ -122,26 +122,26 @@ bit_most p = elim p as (λ t. cond t 1 0 ≤ 1) [ true ↦ omega arith | false �
 
 -- how many cards are held back differs by what the card that moves adds before and after
 held-change : (b : Board) (from : Place) (u : ℕ) (to : Place) → u < 52 → playable b from ≡ Some u
-    → count_by (is_held_back b) all_cards + cond (is_held_back (placed (lifted b from) u to) u) 1 0
-    ≡ count_by (is_held_back (placed (lifted b from) u to)) all_cards + cond (is_held_back b u) 1 0
+    → count_by (is_held_back b) all_cards + cond (is_held_back (board_with (board_without b from) u to) u) 1 0
+    ≡ count_by (is_held_back (board_with (board_without b from) u to)) all_cards + cond (is_held_back b u) 1 0
 held-change b from u to below there =
-    count-but_one u (is_held_back b) (is_held_back (placed (lifted b from) u to)) below
+    count-but_one u (is_held_back b) (is_held_back (board_with (board_without b from) u to)) below
     (λ c other. held-moved b from u to c there (λ e. other (sym e)))
 
 -- where the counts stay, as many cards are not home, and the card that moves alone may be held back more or less
 pub bound-moved : (b : Board) (from : Place) (u : ℕ) (to : Place) → u < 52 → playable b from ≡ Some u
-    → (placed (lifted b from) u to).homes ≡ b.homes
-    → bound b + cond (is_held_back (placed (lifted b from) u to) u) 1 0 ≡ bound (placed (lifted b from) u to) + cond (is_held_back b u) 1 0
+    → (board_with (board_without b from) u to).homes ≡ b.homes
+    → bound b + cond (is_held_back (board_with (board_without b from) u to) u) 1 0 ≡ bound (board_with (board_without b from) u to) + cond (is_held_back b u) 1 0
 unfolding bound
 bound-moved b from u to below there homes =
-    let away : count_by (is_away b) all_cards ≡ count_by (is_away (placed (lifted b from) u to)) all_cards =
-    count-same (is_away b) (is_away (placed (lifted b from) u to))
+    let away : count_by (is_away b) all_cards ≡ count_by (is_away (board_with (board_without b from) u to)) all_cards =
+    count-same (is_away b) (is_away (board_with (board_without b from) u to))
     (λ c _. ap (λ h. nat_lt (slice_index h (suit c)) (rank c)) (sym homes)) in
     let held = held-change b from u to below there in
     omega arith
 
 stays : (b : Board) (from : Place) (u : ℕ) (to : Place) → u < 52 → playable b from ≡ Some u
-    → (placed (lifted b from) u to).homes ≡ b.homes → bound b ≤ bound (placed (lifted b from) u to) + 1
+    → (board_with (board_without b from) u to).homes ≡ b.homes → bound b ≤ bound (board_with (board_without b from) u to) + 1
 stays b from u to below there homes =
     let same = bound-moved b from u to below there homes in
     let most = bit_most (is_held_back b u) in
@@ -149,11 +149,11 @@ stays b from u to below there homes =
 
 -- a card that goes home is not held back, and is home afterwards
 goes_home : (b : Board) (from : Place) (u : ℕ) → IsPosition b → u < 52 → playable b from ≡ Some u → IsNext b.homes u
-    → bound b ≤ bound (placed (lifted b from) u Home) + 1
+    → bound b ≤ bound (board_with (board_without b from) u Home) + 1
 unfolding bound
 goes_home b from u p below there next =
     let homes = homes-lifted b from in
-    let away = count-but_one u (is_away b) (is_away (placed (lifted b from) u Home)) below
+    let away = count-but_one u (is_away b) (is_away (board_with (board_without b from) u Home)) below
     (λ c other. away-home b.homes u c p.homes next other
     ∙ ap (λ h. nat_lt (slice_index (set h (suit u) (rank u)) (suit c)) (rank c)) (sym homes)) in
     let held = held-change b from u Home below there in
@@ -163,7 +163,7 @@ goes_home b from u p below there next =
 
 -- a step lowers the bound by one at most
 moved : (g : GameRules) (b : Board) (from : Place) (u : ℕ) (to : Place) → IsPosition b → playable b from ≡ Some u
-    → Takes g b u to → bound b ≤ bound (placed (lifted b from) u to) + 1
+    → Takes g b u to → bound b ≤ bound (board_with (board_without b from) u to) + 1
 moved g b from u (Column j) p there takes =
     stays b from u (Column j) (playable_below b from u p there) there (homes-lifted b from)
 moved g b from u (Cell j) p there takes =
@@ -178,10 +178,10 @@ step_lowers g b c m p step =
 pub step_moves : StepsMoveTheBoundByTheirCard
 step_moves g b c m u p step other there =
     let same : step.card ≡ u = let e = step.playable in cc in
-    let after : c ≡ placed (lifted b m.from) u m.to = step.after ∙ ap (λ v. placed (lifted b m.from) v m.to) same in
+    let after : c ≡ board_with (board_without b m.from) u m.to = step.after ∙ ap (λ v. board_with (board_without b m.from) v m.to) same in
     rw after (bound-moved b m.from u m.to (playable_below b m.from u p there) there (kept m.to other))
   where
-    kept : (to : Place) → to ≢ Home → (placed (lifted b m.from) u to).homes ≡ b.homes
+    kept : (to : Place) → to ≢ Home → (board_with (board_without b m.from) u to).homes ≡ b.homes
     kept (Column j) ne = homes-lifted b m.from
     kept (Cell j) ne = homes-lifted b m.from
     kept Home ne = absurd (ne refl)

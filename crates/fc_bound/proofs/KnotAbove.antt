@@ -12,7 +12,7 @@ use Rattle.fc_position.proofs.BoardLemmas.{front_last}
 use Rattle.fc_cards.specs.Card.{all_cards}
 use Rattle.fc_bound.specs.Bound.{bound, is_lower, is_above_lower}
 use Rattle.fc_bound.specs.Clearing.{waits, cards_in}
-use Rattle.fc_bound.specs.Knots.{has_last, waits_above, is_loose, is_in_knot, shed, knots, knot_count, knot_bound}
+use Rattle.fc_bound.specs.Knots.{has_last, waits_above, is_loose, is_in_knot, without_last_where, knots, knot_count, knot_bound}
 use Rattle.fc_bound.specs.Laws.{KnotBoundIsNoLess}
 use Rattle.fc_bound.proofs.AboveLemmas.{or-false, above-other, above-top}
 use Rattle.fc_bound.proofs.CountLemmas.{count-but_one, count-same}
@@ -83,7 +83,7 @@ held-column before after (d ∷ cards) true =
 -- columns that are shed free no more cards than wait for a card beneath them
 held-shed : (before : ℕ → Bool) (test : List ℕ → Bool) (columns : List (List ℕ))
     → count_by (λ c. before c || list_any (is_above_lower c) columns) all_cards
-    ≤ count_by waits_above columns + count_by (λ c. before c || list_any (is_above_lower c) (shed test columns)) all_cards
+    ≤ count_by waits_above columns + count_by (λ c. before c || list_any (is_above_lower c) (without_last_where test columns)) all_cards
 held-shed before test [] = omega arith
 held-shed before test (x ∷ xs) =
     let new : List ℕ = cond (test x) (front_of x) x in
@@ -95,12 +95,12 @@ held-shed before test (x ∷ xs) =
       held-column before (λ c. list_any (is_above_lower c) xs) x (test x),
       held-shed (λ c. before c || is_above_lower c new) test xs,
       split xs,
-      split (shed test xs),
+      split (without_last_where test xs),
       sum_by-cons (λ c. cond (waits_above c) 1 0) x xs,
     )
 
 held-less : (test : List ℕ → Bool) (columns : List (List ℕ))
-    → held_in columns ≤ count_by waits_above columns + held_in (shed test columns)
+    → held_in columns ≤ count_by waits_above columns + held_in (without_last_where test columns)
 held-less test columns = held-shed (λ c. false) test columns
 
 -- where no column is loose, no last card waits for a card beneath it
@@ -113,7 +113,7 @@ tight-none columns (x ∷ xs) tight =
 
 -- a loose card leaves, so fewer cards stand in the columns
 shed-loose_one : (columns : List (List ℕ)) → list_any (is_loose columns) columns ≡ true
-    → 1 + cards_in (shed (is_loose columns) columns) ≤ cards_in columns
+    → 1 + cards_in (without_last_where (is_loose columns) columns) ≤ cards_in columns
 shed-loose_one columns some_loose =
     let f = found (is_loose columns) columns some_loose in
     let x : List ℕ = get_or columns f.place [] in
@@ -133,8 +133,8 @@ held-knots : (steps : ℕ) (columns : List (List ℕ)) → cards_in columns ≤ 
 unfolding knots
 held-knots zero columns few = omega (arith, few, held-few columns)
 held-knots (suc steps) columns few =
-    let loose : List (List ℕ) = shed (is_loose columns) columns in
-    let tight : List (List ℕ) = shed (is_in_knot columns) columns in
+    let loose : List (List ℕ) = without_last_where (is_loose columns) columns in
+    let tight : List (List ℕ) = without_last_where (is_in_knot columns) columns in
     let knot : ℕ = cond (list_any (λ column. has_last (last_of column)) columns) (1 + knots steps tight) 0 in
     cond_both (list_any (is_loose columns) columns) (count_by waits_above columns + knots steps loose) knot (λ n. held_in columns ≤ n)
     (λ some_loose. omega (

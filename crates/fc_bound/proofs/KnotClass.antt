@@ -8,7 +8,7 @@ use Rattle.fc_cards.specs.Card.{rank, suit, all_cards}
 use Rattle.fc_position.specs.Board.{last_of, front_of}
 use Rattle.fc_bound.specs.Bound.{is_away}
 use Rattle.fc_bound.specs.Clearing.{cards_in}
-use Rattle.fc_bound.specs.Knots.{has_last, ends_with, waits_in, waits_above, is_loose, are_knotted, first_with, least_last, first_knotted, second_knotted, ends_among, is_among, is_astray, is_ring, all_but, leave_out, leave_out_each, ring, is_in_knot, shed, knots, knot_count, knot_bound}
+use Rattle.fc_bound.specs.Knots.{has_last, ends_with, waits_in, waits_above, is_loose, are_knotted, first_with, least_last, first_knotted, second_knotted, ends_among, is_among, is_astray, is_ring, all_but, leave_out, leave_out_each, ring, is_in_knot, without_last_where, knots, knot_count, knot_bound}
 use Rattle.fc_bound.specs.Laws.{ClassMatesHaveOneKnotBound}
 use Rattle.fc_bound.proofs.ClearingOrders.{waits-moved}
 
@@ -68,9 +68,9 @@ in_knot-moved xs ys p =
     λ i column. cond (first-moved xs ys p i == 52) (is_among (ring-moved xs ys p i) (last_of column))
     (ends_with (first-moved xs ys p i) (last_of column) || ends_with (second-moved xs ys p i) (last_of column))
 
-shed-moved : (s t : List ℕ → Bool) (xs ys : List (List ℕ)) → s ≡ t → IsPermutation xs ys → IsPermutation (shed s xs) (shed t ys)
+shed-moved : (s t : List ℕ → Bool) (xs ys : List (List ℕ)) → s ≡ t → IsPermutation xs ys → IsPermutation (without_last_where s xs) (without_last_where t ys)
 shed-moved s t xs ys same p =
-    subst (λ test. IsPermutation (shed s xs) (shed test ys)) same
+    subst (λ test. IsPermutation (without_last_where s xs) (without_last_where test ys)) same
     (IsPermutation-map (λ column. cond (s column) (front_of column) column) xs ys p)
 
 knots-moved : (steps : ℕ) (xs ys : List (List ℕ)) → IsPermutation xs ys → knots steps xs ≡ knots steps ys
@@ -81,9 +81,9 @@ knots-moved (suc steps) xs ys p =
     let above : count_by waits_above xs ≡ count_by waits_above ys =
     sym (sum_by-IsPermutation (λ column. cond (waits_above column) 1 0) xs ys p) in
     let some_last = list_any-IsPermutation (λ column. has_last (last_of column)) xs ys p in
-    let one = knots-moved steps (shed (is_loose xs) xs) (shed (is_loose ys) ys)
+    let one = knots-moved steps (without_last_where (is_loose xs) xs) (without_last_where (is_loose ys) ys)
     (shed-moved (is_loose xs) (is_loose ys) xs ys (loose-moved xs ys p) p) in
-    let two = knots-moved steps (shed (is_in_knot xs) xs) (shed (is_in_knot ys) ys)
+    let two = knots-moved steps (without_last_where (is_in_knot xs) xs) (without_last_where (is_in_knot ys) ys)
     (shed-moved (is_in_knot xs) (is_in_knot ys) xs ys (in_knot-moved xs ys p) p) in
     λ i. cond (loose i) (above i + one i) (cond (some_last i) (1 + two i) 0)
 

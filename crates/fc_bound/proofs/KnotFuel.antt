@@ -5,7 +5,7 @@ use Rattle.std.specs.List.{list_any}
 use Rattle.std.proofs.lemmas.Bool.{cases_Bool}
 use Rattle.fc_position.specs.Board.{last_of}
 use Rattle.fc_bound.specs.Clearing.{cards_in}
-use Rattle.fc_bound.specs.Knots.{has_last, is_loose, is_in_knot, waits_above, shed, knots, knot_count}
+use Rattle.fc_bound.specs.Knots.{has_last, is_loose, is_in_knot, waits_above, without_last_where, knots, knot_count}
 use Rattle.fc_bound.proofs.ClearingSearch.{loose_fewer}
 use Rattle.fc_bound.proofs.KnotSteps.{knots_loose, knots_knot, knots_none, shed_knot, count_is}
 
@@ -19,11 +19,11 @@ enough zero columns few =
 enough (suc steps) columns few =
     ⊎_elim
     (λ loose. knots_loose columns loose (suc steps)
-    ∙ ap (λ n. count_by waits_above columns + n) (enough steps (shed (is_loose columns) columns) (omega (arith, few, loose_fewer columns loose)))
+    ∙ ap (λ n. count_by waits_above columns + n) (enough steps (without_last_where (is_loose columns) columns) (omega (arith, few, loose_fewer columns loose)))
     ∙ sym (knots_loose columns loose steps))
     (λ tight. ⊎_elim
     (λ some_last. knots_knot columns tight some_last (suc steps)
-    ∙ ap (λ n. 1 + n) (enough steps (shed (is_in_knot columns) columns) (omega (arith, few, shed_knot columns some_last)))
+    ∙ ap (λ n. 1 + n) (enough steps (without_last_where (is_in_knot columns) columns) (omega (arith, few, shed_knot columns some_last)))
     ∙ sym (knots_knot columns tight some_last steps))
     (λ none. knots_none columns tight none (suc (suc steps)) ∙ sym (knots_none columns tight none (suc steps)))
     (cases_Bool (list_any (λ column. has_last (last_of column)) columns)))

@@ -13,7 +13,7 @@ use Rattle.fc_cards.specs.Card.{all_cards}
 use Rattle.fc_cards.proofs.CardLemmas.{every_card}
 use Rattle.fc_bound.specs.Bound.{is_lower}
 use Rattle.fc_bound.specs.Clearing.{waits, cards_in, clearing_cost, clearing_bound}
-use Rattle.fc_bound.specs.Knots.{has_last, ends_with, waits_in, waits_above, is_loose, are_knotted, first_with, first_knotted, second_knotted, ends_among, is_among, waits_among, is_astray, is_ring, ring, is_in_knot, shed, knots, knot_count, knot_bound}
+use Rattle.fc_bound.specs.Knots.{has_last, ends_with, waits_in, waits_above, is_loose, are_knotted, first_with, first_knotted, second_knotted, ends_among, is_among, waits_among, is_astray, is_ring, ring, is_in_knot, without_last_where, knots, knot_count, knot_bound}
 use Rattle.fc_bound.specs.Laws.{KnotBoundIsNoGreater}
 use Rattle.fc_bound.proofs.AboveLemmas.{not_true, or-false, contains-stands, stands-counted}
 use Rattle.fc_bound.proofs.HeldLemmas.{Found, found}
@@ -257,8 +257,8 @@ pub knot_cost_no_greater : (steps : ℕ) (columns : List (List ℕ)) → AreCard
 unfolding knots
 knot_cost_no_greater zero columns cards = omega arith
 knot_cost_no_greater (suc steps) columns cards =
-    let loose : List (List ℕ) = shed (is_loose columns) columns in
-    let tight : List (List ℕ) = shed (is_in_knot columns) columns in
+    let loose : List (List ℕ) = without_last_where (is_loose columns) columns in
+    let tight : List (List ℕ) = without_last_where (is_in_knot columns) columns in
     let knot : ℕ = cond (list_any (λ column. has_last (last_of column)) columns) (1 + knots steps tight) 0 in
     cond_both (list_any (is_loose columns) columns) (count_by waits_above columns + knots steps loose) knot (λ n. n ≤ clearing_cost columns)
     (λ some_loose. omega (

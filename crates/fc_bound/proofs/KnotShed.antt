@@ -8,7 +8,7 @@ use Rattle.std.proofs.lemmas.List.Sums.{sum_by-cons}
 use Rattle.fc_position.specs.Board.{last_of, front_of}
 use Rattle.fc_position.specs.Tally.{AllCards}
 use Rattle.fc_bound.specs.Clearing.{waits, without, clearing_cost}
-use Rattle.fc_bound.specs.Knots.{has_last, waits_above, is_loose, shed}
+use Rattle.fc_bound.specs.Knots.{has_last, waits_above, is_loose, without_last_where}
 use Rattle.fc_bound.proofs.AboveLemmas.{not_true}
 use Rattle.fc_bound.proofs.ClearingOrders.{IsFront, AreFronts, fronts-same, fronts-wait, cost-fronts, free_first}
 use Rattle.fc_bound.proofs.ClearingTied.{TiedBy, tied-best, tied-alone}
@@ -22,7 +22,7 @@ cards-less : (x : List ℕ) (b : Bool) → AllCards x → AllCards (cond b (fron
 cards-less x true cards = All-take (λ c. c < 52) (length x - 1) x cards
 cards-less x false cards = cards
 
-pub shed-cards : (test : List ℕ → Bool) (columns : List (List ℕ)) → AreCards columns → AreCards (shed test columns)
+pub shed-cards : (test : List ℕ → Bool) (columns : List (List ℕ)) → AreCards columns → AreCards (without_last_where test columns)
 shed-cards test columns cards =
     All-map AllCards (λ column. cond (test column) (front_of column) column) columns
     (All-weaker AllCards (λ x. AllCards (cond (test x) (front_of x) x)) (λ x all. cards-less x (test x) all) columns cards)
@@ -32,13 +32,13 @@ front-less : (x : List ℕ) (b : Bool) → IsFront (cond b (front_of x) x) x
 front-less x true = (drop (length x - 1) x, sym (take-append-drop (length x - 1) x))
 front-less x false = ([], sym (append-nil x))
 
-pub shed-fronts : (test : List ℕ → Bool) (columns : List (List ℕ)) → AreFronts (shed test columns) columns
+pub shed-fronts : (test : List ℕ → Bool) (columns : List (List ℕ)) → AreFronts (without_last_where test columns) columns
 shed-fronts test [] = tt
 shed-fronts test (x ∷ xs) = (front-less x (test x), shed-fronts test xs)
 
 -- columns that are shed are fronts of those that lost one card alone, where that one's column is shed
 shed-without : (test : List ℕ → Bool) (columns : List (List ℕ)) (i : ℕ) → test (get_or columns i []) ≡ true
-    → AreFronts (shed test columns) (without columns i)
+    → AreFronts (without_last_where test columns) (without columns i)
 shed-without test [] i passes = tt
 shed-without test (x ∷ xs) zero passes =
     (([], ap (λ t. cond t (front_of x) x) (sym passes) ∙ sym (append-nil (cond (test x) (front_of x) x))), shed-fronts test xs)
@@ -50,11 +50,11 @@ is_shed columns test i = test (get_or columns i []) && has_last (last_of (get_or
 
 -- tied columns are shed at one
 pub shed-tied : (columns : List (List ℕ)) (test : List ℕ → Bool) → TiedBy columns (is_shed columns test)
-    → 1 + clearing_cost (shed test columns) ≤ clearing_cost columns
+    → 1 + clearing_cost (without_last_where test columns) ≤ clearing_cost columns
 shed-tied columns test t =
     let (i, passes, best) = tied-best columns (is_shed columns test) t in
     let fewer = shed-without test columns i (and_parts (test (get_or columns i [])) (has_last (last_of (get_or columns i []))) passes).0 in
-    omega (arith, best, cost-fronts (shed test columns) (without columns i) fewer)
+    omega (arith, best, cost-fronts (without_last_where test columns) (without columns i) fewer)
 
 -- a column among others, and those without its last card
 pub fronts-among : (before : List (List ℕ)) (x : List ℕ) (b : Bool) (xs : List (List ℕ))
@@ -116,7 +116,7 @@ shed-one columns before x xs free =
 
 -- the loose columns are shed one after another
 pub shed-loose : (columns before rest : List (List ℕ)) → ((o : Option ℕ) → waits columns o ≡ false → waits (before ++ rest) o ≡ false)
-    → count_by waits_above rest + clearing_cost (before ++ shed (is_loose columns) rest) ≤ clearing_cost (before ++ rest)
+    → count_by waits_above rest + clearing_cost (before ++ without_last_where (is_loose columns) rest) ≤ clearing_cost (before ++ rest)
 shed-loose columns before [] free = omega arith
 shed-loose columns before (x ∷ xs) free =
     let new : List ℕ = cond (is_loose columns x) (front_of x) x in
@@ -126,6 +126,6 @@ shed-loose columns before (x ∷ xs) free =
     true≢false (sym (fronts-wait (before ++ new ∷ xs) (before ++ x ∷ xs) o (fronts-among before x (is_loose columns x) xs) waiting) ∙ free o idle)) in
     let later = shed-loose columns (before ++ new ∷ []) xs fewer in
     let one : clearing_cost ((before ++ new ∷ []) ++ xs) ≡ clearing_cost (before ++ new ∷ xs) = ap clearing_cost (split xs) in
-    let all : clearing_cost ((before ++ new ∷ []) ++ shed (is_loose columns) xs) ≡ clearing_cost (before ++ new ∷ shed (is_loose columns) xs) =
-    ap clearing_cost (split (shed (is_loose columns) xs)) in
+    let all : clearing_cost ((before ++ new ∷ []) ++ without_last_where (is_loose columns) xs) ≡ clearing_cost (before ++ new ∷ without_last_where (is_loose columns) xs) =
+    ap clearing_cost (split (without_last_where (is_loose columns) xs)) in
     omega (arith, shed-one columns before x xs free, later, one, all, sum_by-cons (λ c. cond (waits_above c) 1 0) x xs)

@@ -7,36 +7,36 @@ use Rattle.std.proofs.lemmas.List.Sums.{sum_by-cons}
 use Rattle.fc_position.specs.Board.{last_of, front_of}
 use Rattle.fc_cards.specs.Card.{all_cards}
 use Rattle.fc_bound.specs.Clearing.{waits, cards_in}
-use Rattle.fc_bound.specs.Knots.{has_last, ends_with, waits_above, is_loose, are_knotted, first_with, first_knotted, second_knotted, is_among, ring, is_in_knot, shed, knots, knot_count}
+use Rattle.fc_bound.specs.Knots.{has_last, ends_with, waits_above, is_loose, are_knotted, first_with, first_knotted, second_knotted, is_among, ring, is_in_knot, without_last_where, knots, knot_count}
 use Rattle.fc_bound.proofs.AboveLemmas.{or-true}
 use Rattle.fc_bound.proofs.HeldLemmas.{found}
 use Rattle.fc_bound.proofs.RingLemmas.{among_is, ring_some, knot_ring, knot_two}
 
 -- one step
 pub knots_loose : (columns : List (List ℕ)) → list_any (is_loose columns) columns ≡ true → (steps : ℕ)
-    → knots (suc steps) columns ≡ count_by waits_above columns + knots steps (shed (is_loose columns) columns)
+    → knots (suc steps) columns ≡ count_by waits_above columns + knots steps (without_last_where (is_loose columns) columns)
 unfolding knots
 knots_loose columns loose steps =
-    ap (λ t. cond t (count_by waits_above columns + knots steps (shed (is_loose columns) columns))
-    (cond (list_any (λ column. has_last (last_of column)) columns) (1 + knots steps (shed (is_in_knot columns) columns)) 0)) loose
+    ap (λ t. cond t (count_by waits_above columns + knots steps (without_last_where (is_loose columns) columns))
+    (cond (list_any (λ column. has_last (last_of column)) columns) (1 + knots steps (without_last_where (is_in_knot columns) columns)) 0)) loose
 
 pub knots_knot : (columns : List (List ℕ)) → list_any (is_loose columns) columns ≡ false
     → list_any (λ column. has_last (last_of column)) columns ≡ true → (steps : ℕ)
-    → knots (suc steps) columns ≡ 1 + knots steps (shed (is_in_knot columns) columns)
+    → knots (suc steps) columns ≡ 1 + knots steps (without_last_where (is_in_knot columns) columns)
 unfolding knots
 knots_knot columns none some_last steps =
-    ap (λ t. cond t (count_by waits_above columns + knots steps (shed (is_loose columns) columns))
-    (cond (list_any (λ column. has_last (last_of column)) columns) (1 + knots steps (shed (is_in_knot columns) columns)) 0)) none
-    ∙ ap (λ t. cond t (1 + knots steps (shed (is_in_knot columns) columns)) 0) some_last
+    ap (λ t. cond t (count_by waits_above columns + knots steps (without_last_where (is_loose columns) columns))
+    (cond (list_any (λ column. has_last (last_of column)) columns) (1 + knots steps (without_last_where (is_in_knot columns) columns)) 0)) none
+    ∙ ap (λ t. cond t (1 + knots steps (without_last_where (is_in_knot columns) columns)) 0) some_last
 
 pub knots_none : (columns : List (List ℕ)) → list_any (is_loose columns) columns ≡ false
     → list_any (λ column. has_last (last_of column)) columns ≡ false → (steps : ℕ) → knots steps columns ≡ 0
 unfolding knots
 knots_none columns none no_last zero = refl
 knots_none columns none no_last (suc steps) =
-    ap (λ t. cond t (count_by waits_above columns + knots steps (shed (is_loose columns) columns))
-    (cond (list_any (λ column. has_last (last_of column)) columns) (1 + knots steps (shed (is_in_knot columns) columns)) 0)) none
-    ∙ ap (λ t. cond t (1 + knots steps (shed (is_in_knot columns) columns)) 0) no_last
+    ap (λ t. cond t (count_by waits_above columns + knots steps (without_last_where (is_loose columns) columns))
+    (cond (list_any (λ column. has_last (last_of column)) columns) (1 + knots steps (without_last_where (is_in_knot columns) columns)) 0)) none
+    ∙ ap (λ t. cond t (1 + knots steps (without_last_where (is_in_knot columns) columns)) 0) no_last
 
 -- a column is no longer where it sheds a card, and shorter where it has one
 shed_length : (flag : Bool) (cards : List ℕ) → length (cond flag (front_of cards) cards) ≤ length cards
@@ -67,37 +67,37 @@ shed_above test cards loose =
     ] refl
 
 shed_few : (test : List ℕ → Bool) (columns : List (List ℕ)) → ((cards : List ℕ) → waits_above cards ≡ true → test cards ≡ true)
-    → count_by waits_above columns + cards_in (shed test columns) ≤ cards_in columns
+    → count_by waits_above columns + cards_in (without_last_where test columns) ≤ cards_in columns
 shed_few test [] loose = omega arith
 shed_few test (x ∷ columns) loose = omega (
   arith,
   sum_by-cons (λ (cards : List ℕ). cond (waits_above cards) 1 0) x columns,
   sum_by-cons (λ (cards : List ℕ). length cards) x columns,
-  sum_by-cons (λ (cards : List ℕ). length cards) (cond (test x) (front_of x) x) (shed test columns),
+  sum_by-cons (λ (cards : List ℕ). length cards) (cond (test x) (front_of x) x) (without_last_where test columns),
   shed_above test x (loose x),
   shed_few test columns loose,
 )
 
 -- what is shed of a column with a last card are fewer cards
-shed_cards : (test : List ℕ → Bool) (columns : List (List ℕ)) → cards_in (shed test columns) ≤ cards_in columns
+shed_cards : (test : List ℕ → Bool) (columns : List (List ℕ)) → cards_in (without_last_where test columns) ≤ cards_in columns
 shed_cards test [] = omega arith
 shed_cards test (x ∷ columns) = omega (
   arith,
   sum_by-cons (λ (cards : List ℕ). length cards) x columns,
-  sum_by-cons (λ (cards : List ℕ). length cards) (cond (test x) (front_of x) x) (shed test columns),
+  sum_by-cons (λ (cards : List ℕ). length cards) (cond (test x) (front_of x) x) (without_last_where test columns),
   shed_length (test x) x,
   shed_cards test columns,
 )
 
 pub shed_at : (test : List ℕ → Bool) (columns : List (List ℕ)) (k : ℕ) → k < length columns → test (get_or columns k []) ≡ true
-    → has_last (last_of (get_or columns k [])) ≡ true → 1 + cards_in (shed test columns) ≤ cards_in columns
+    → has_last (last_of (get_or columns k [])) ≡ true → 1 + cards_in (without_last_where test columns) ≤ cards_in columns
 shed_at test [] k inside passes has = absurd (omega (arith, inside))
 shed_at test (x ∷ columns) zero inside passes has =
     let one = ap (λ t. length (cond t (front_of x) x)) passes in
     omega (
       arith,
       sum_by-cons (λ (cards : List ℕ). length cards) x columns,
-      sum_by-cons (λ (cards : List ℕ). length cards) (cond (test x) (front_of x) x) (shed test columns),
+      sum_by-cons (λ (cards : List ℕ). length cards) (cond (test x) (front_of x) x) (without_last_where test columns),
       one,
       front_length x has,
       shed_cards test columns,
@@ -105,7 +105,7 @@ shed_at test (x ∷ columns) zero inside passes has =
 shed_at test (x ∷ columns) (suc k) inside passes has = omega (
   arith,
   sum_by-cons (λ (cards : List ℕ). length cards) x columns,
-  sum_by-cons (λ (cards : List ℕ). length cards) (cond (test x) (front_of x) x) (shed test columns),
+  sum_by-cons (λ (cards : List ℕ). length cards) (cond (test x) (front_of x) x) (without_last_where test columns),
   shed_length (test x) x,
   shed_at test columns k (omega (arith, inside)) passes has,
 )
@@ -132,9 +132,9 @@ has_ending u (Some v) ends = refl
 
 -- a knot has a card
 pub shed_knot : (columns : List (List ℕ)) → list_any (λ column. has_last (last_of column)) columns ≡ true
-    → 1 + cards_in (shed (is_in_knot columns) columns) ≤ cards_in columns
+    → 1 + cards_in (without_last_where (is_in_knot columns) columns) ≤ cards_in columns
 shed_knot columns some_last =
-    elim (first_knotted columns == 52) as (λ t. (first_knotted columns == 52) ≡ t → 1 + cards_in (shed (is_in_knot columns) columns) ≤ cards_in columns) [
+    elim (first_knotted columns == 52) as (λ t. (first_knotted columns == 52) ≡ t → 1 + cards_in (without_last_where (is_in_knot columns) columns) ≤ cards_in columns) [
       | true ↦ λ none.
           let f = found (λ column. is_among (ring columns) (last_of column)) columns (ring_some columns some_last) in
           let x : List ℕ = get_or columns f.place [] in
@@ -155,13 +155,13 @@ pub knots_few : (steps : ℕ) (columns : List (List ℕ)) → knots steps column
 unfolding knots
 knots_few zero columns = omega arith
 knots_few (suc steps) columns =
-    elim (list_any (is_loose columns) columns) as (λ t. cond t (count_by waits_above columns + knots steps (shed (is_loose columns) columns))
-    (cond (list_any (λ column. has_last (last_of column)) columns) (1 + knots steps (shed (is_in_knot columns) columns)) 0) ≤ cards_in columns) [
-      | true ↦ omega (arith, shed_few (is_loose columns) columns (above_loose columns), knots_few steps (shed (is_loose columns) columns))
+    elim (list_any (is_loose columns) columns) as (λ t. cond t (count_by waits_above columns + knots steps (without_last_where (is_loose columns) columns))
+    (cond (list_any (λ column. has_last (last_of column)) columns) (1 + knots steps (without_last_where (is_in_knot columns) columns)) 0) ≤ cards_in columns) [
+      | true ↦ omega (arith, shed_few (is_loose columns) columns (above_loose columns), knots_few steps (without_last_where (is_loose columns) columns))
       | false ↦
           elim (list_any (λ column. has_last (last_of column)) columns) as (λ t. list_any (λ column. has_last (last_of column)) columns ≡ t
-          → cond t (1 + knots steps (shed (is_in_knot columns) columns)) 0 ≤ cards_in columns) [
-            | true ↦ λ has. omega (arith, shed_knot columns has, knots_few steps (shed (is_in_knot columns) columns))
+          → cond t (1 + knots steps (without_last_where (is_in_knot columns) columns)) 0 ≤ cards_in columns) [
+            | true ↦ λ has. omega (arith, shed_knot columns has, knots_few steps (without_last_where (is_in_knot columns) columns))
             | false ↦ λ _. omega arith
           ] refl
     ]

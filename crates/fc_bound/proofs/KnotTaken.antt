@@ -8,7 +8,7 @@ use Rattle.std.proofs.lemmas.List.Folds.{list_any-append}
 use Rattle.std.proofs.lemmas.List.Sums.{sum_by-cons, sum_by-append}
 use Rattle.fc_position.specs.Board.{last_of, front_of}
 use Rattle.fc_bound.specs.Clearing.{waits, without, cards_in}
-use Rattle.fc_bound.specs.Knots.{has_last, waits_above, is_loose, shed, knot_count}
+use Rattle.fc_bound.specs.Knots.{has_last, waits_above, is_loose, without_last_where, knot_count}
 use Rattle.fc_bound.proofs.AboveLemmas.{not_true, or-true}
 use Rattle.fc_bound.proofs.ClearingLemmas.{last_there}
 use Rattle.fc_bound.proofs.ClearingOrders.{fronts-wait}
@@ -73,7 +73,7 @@ shed-first n first s before x ys few free =
 -- the columns of a part, one after another
 shed-part : (n : ℕ) → GoesFirst n → (s before rest after : List (List ℕ)) → cards_in (before ++ (rest ++ after)) ≤ n
     → ((o : Option ℕ) → waits s o ≡ false → waits (before ++ (rest ++ after)) o ≡ false)
-    → Shed n s (before ++ (rest ++ after)) (before ++ (shed (is_loose s) rest ++ after)) (count_by waits_above rest)
+    → Shed n s (before ++ (rest ++ after)) (before ++ (without_last_where (is_loose s) rest ++ after)) (count_by waits_above rest)
 shed-part n first s before [] after few free = record { knots = omega arith; few = few; free = free }
 shed-part n first s before (x ∷ xs) after few free =
     let new : List ℕ = cond (is_loose s x) (front_of x) x in
@@ -82,7 +82,7 @@ shed-part n first s before (x ∷ xs) after few free =
     let later = shed-part n first s (before ++ new ∷ []) xs after
     (omega (arith, one.few, ap cards_in (split (xs ++ after))))
     (λ o idle. ap (λ now. waits now o) (split (xs ++ after)) ∙ one.free o idle) in
-    let last = split (shed (is_loose s) xs ++ after) in
+    let last = split (without_last_where (is_loose s) xs ++ after) in
     record {
       knots = omega (
         arith,
@@ -96,7 +96,7 @@ shed-part n first s before (x ∷ xs) after few free =
       free = λ o idle. ap (λ now. waits now o) (sym last) ∙ later.free o idle;
     }
 
-shed-append : (test : List ℕ → Bool) (xs ys : List (List ℕ)) → shed test (xs ++ ys) ≡ shed test xs ++ shed test ys
+shed-append : (test : List ℕ → Bool) (xs ys : List (List ℕ)) → without_last_where test (xs ++ ys) ≡ without_last_where test xs ++ without_last_where test ys
 shed-append test [] ys = refl
 shed-append test (x ∷ xs) ys = ap (λ (zs : List (List ℕ)). cond (test x) (front_of x) x ∷ zs) (shed-append test xs ys)
 
@@ -113,18 +113,18 @@ taken-among n first before x after few loose =
     let free_now : (o : Option ℕ) → waits s o ≡ false → waits t o ≡ false =
     λ o idle. not_true (waits t o) (λ waiting. true≢false (sym (fronts-wait t s o (fronts-among before x true after) waiting) ∙ idle)) in
     let one = shed-part n first s [] before (front_of x ∷ after) few_now free_now in
-    let front : List (List ℕ) = shed (is_loose s) before ++ front_of x ∷ [] in
-    let join : (ys : List (List ℕ)) → front ++ (ys ++ []) ≡ shed (is_loose s) before ++ front_of x ∷ ys =
-    λ ys. append_assoc (shed (is_loose s) before) (front_of x ∷ []) (ys ++ [])
-    ∙ ap (λ (zs : List (List ℕ)). shed (is_loose s) before ++ front_of x ∷ zs) (append-nil ys) in
+    let front : List (List ℕ) = without_last_where (is_loose s) before ++ front_of x ∷ [] in
+    let join : (ys : List (List ℕ)) → front ++ (ys ++ []) ≡ without_last_where (is_loose s) before ++ front_of x ∷ ys =
+    λ ys. append_assoc (without_last_where (is_loose s) before) (front_of x ∷ []) (ys ++ [])
+    ∙ ap (λ (zs : List (List ℕ)). without_last_where (is_loose s) before ++ front_of x ∷ zs) (append-nil ys) in
     let two = shed-part n first s front after [] (omega (arith, one.few, ap cards_in (join after)))
     (λ o idle. ap (λ now. waits now o) (join after) ∙ one.free o idle) in
     let some_loose : list_any (is_loose s) s ≡ true =
     list_any-append (is_loose s) before (x ∷ after) ∙ ap (λ f. list_any (is_loose s) before || (f || list_any (is_loose s) after)) loose
     ∙ or-true (list_any (is_loose s) before) in
-    let all : shed (is_loose s) s ≡ shed (is_loose s) before ++ front_of x ∷ shed (is_loose s) after =
+    let all : without_last_where (is_loose s) s ≡ without_last_where (is_loose s) before ++ front_of x ∷ without_last_where (is_loose s) after =
     shed-append (is_loose s) before (x ∷ after)
-    ∙ ap (λ f. shed (is_loose s) before ++ cond f (front_of x) x ∷ shed (is_loose s) after) loose in
+    ∙ ap (λ f. without_last_where (is_loose s) before ++ cond f (front_of x) x ∷ without_last_where (is_loose s) after) loose in
     omega (
       arith,
       count_loose s some_loose,
@@ -134,7 +134,7 @@ taken-among n first before x after few loose =
       one.knots,
       ap knot_count (join after),
       two.knots,
-      ap knot_count (join (shed (is_loose s) after)),
+      ap knot_count (join (without_last_where (is_loose s) after)),
     )
 
 -- columns by a column of them

@@ -15,7 +15,7 @@ use Rattle.fc_bound.specs.Bound.{stands_in}
 use Rattle.fc_bound.specs.Clearing.{without}
 use Rattle.fc_bound.specs.Rows.{AreBits, stands_among}
 use Rattle.fc_bound.specs.inner.Rows.{left_of, left_in, AreApart}
-use Rattle.fc_bound.specs.Knots.{has_last, ends_with, shed, ends_among}
+use Rattle.fc_bound.specs.Knots.{has_last, ends_with, without_last_where, ends_among}
 use Rattle.fc_bound.proofs.AboveLemmas.{not_true, stands-counted}
 use Rattle.fc_bound.proofs.HeldLemmas.{found}
 use Rattle.fc_bound.proofs.ClearingLemmas.{last_there}
@@ -30,7 +30,7 @@ has_last_is (x ∷ cards) =
 -- columns of which those that pass a test have lost their last card
 pub shed_all : (test : List ℕ → Bool) (columns now : List (List ℕ)) → length now ≡ length columns
     → ((k : ℕ) → k < length columns → get_or now k [] ≡ cond (test (get_or columns k [])) (front_of (get_or columns k [])) (get_or columns k []))
-    → now ≡ shed test columns
+    → now ≡ without_last_where test columns
 shed_all test [] [] long each = refl
 shed_all test [] (n ∷ now) long each = absurd (omega (arith, long))
 shed_all test (x ∷ columns) [] long each = absurd (omega (arith, long))
@@ -41,9 +41,9 @@ shed_all test (x ∷ columns) (n ∷ now) long each =
 -- the tests that agree on each column shed the same
 pub shed_same : (s t : List ℕ → Bool) (columns : List (List ℕ))
     → ((k : ℕ) → k < length columns → s (get_or columns k []) ≡ (t (get_or columns k []) && has_last (last_of (get_or columns k []))))
-    → shed s columns ≡ shed t columns
+    → without_last_where s columns ≡ without_last_where t columns
 shed_same s t columns agree =
-    shed_all t columns (shed s columns) (length-map columns (λ column. cond (s column) (front_of column) column))
+    shed_all t columns (without_last_where s columns) (length-map columns (λ column. cond (s column) (front_of column) column))
     (λ k inside. get_or-map (λ column. cond (s column) (front_of column) column) columns k [] [] inside
     ∙ ap (λ p. cond p (front_of (get_or columns k [])) (get_or columns k [])) (agree k inside) ∙ lost (get_or columns k []) (t (get_or columns k [])))
   where

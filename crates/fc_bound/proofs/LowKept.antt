@@ -11,7 +11,7 @@ use Rattle.fc_position.specs.Board.{last_of, front_of}
 use Rattle.fc_position.proofs.BoardLemmas.{front_last}
 use Rattle.fc_bound.specs.Bound.{is_lower, stands_in}
 use Rattle.fc_bound.specs.Clearing.{waits}
-use Rattle.fc_bound.specs.Knots.{has_last, is_loose, shed}
+use Rattle.fc_bound.specs.Knots.{has_last, is_loose, without_last_where}
 use Rattle.fc_bound.specs.Rows.{stands_among}
 use Rattle.fc_bound.specs.inner.Rows.{AreLow}
 use Rattle.fc_bound.proofs.AboveLemmas.{contains-stands, stands-contains, stands-more}
@@ -83,23 +83,23 @@ stays_in true (c ∷ cards) d stands other =
 
 -- where no card may leave at once, those that wait wait where some last cards are shed
 still_waits : (v : List (List ℕ)) (test : List ℕ → Bool) (c : ℕ) → list_any (is_loose v) v ≡ false → waits v (Some c) ≡ true
-    → waits (shed test v) (Some c) ≡ true
+    → waits (without_last_where test v) (Some c) ≡ true
 still_waits v test c tight waiting =
     let i = idle (suc c) c v (omega arith) waiting in
     let x : List ℕ = get_or v i.place [] in
     let other : last_of x ≡ Some i.card → ⊥ = λ last.
     true≢false (sym (tight-waits v i.place tight (ap has_last last)) ∙ ap (waits v) last ∙ i.idle) in
-    let at : get_or (shed test v) i.place [] ≡ cond (test x) (front_of x) x =
+    let at : get_or (without_last_where test v) i.place [] ≡ cond (test x) (front_of x) x =
     get_or-map (λ y. cond (test y) (front_of y) y) v i.place [] [] i.inside in
-    let stands : stands_in (get_or (shed test v) i.place []) i.card ≡ true =
+    let stands : stands_in (get_or (without_last_where test v) i.place []) i.card ≡ true =
     ap (λ y. stands_in y i.card) at ∙ stays_in (test x) x i.card i.stands other in
-    let (j, below, e) = stands-contains (get_or (shed test v) i.place []) i.card stands in
-    list_any_at (list_any (is_lower c)) (shed test v) i.place [] (omega (arith, i.inside, length-map v (λ y. cond (test y) (front_of y) y)))
-    (list_any_at (is_lower c) (get_or (shed test v) i.place []) j i.card below (ap (is_lower c) e ∙ i.lower))
+    let (j, below, e) = stands-contains (get_or (without_last_where test v) i.place []) i.card stands in
+    list_any_at (list_any (is_lower c)) (without_last_where test v) i.place [] (omega (arith, i.inside, length-map v (λ y. cond (test y) (front_of y) y)))
+    (list_any_at (is_lower c) (get_or (without_last_where test v) i.place []) j i.card below (ap (is_lower c) e ∙ i.lower))
 
-stands_before : (v : List (List ℕ)) (test : List ℕ → Bool) (c : ℕ) → stands_among (shed test v) c ≡ true → stands_among v c ≡ true
+stands_before : (v : List (List ℕ)) (test : List ℕ → Bool) (c : ℕ) → stands_among (without_last_where test v) c ≡ true → stands_among v c ≡ true
 stands_before v test c among =
-    let f = found (λ column. stands_in column c) (shed test v) among in
+    let f = found (λ column. stands_in column c) (without_last_where test v) among in
     let long = length-map v (λ y. cond (test y) (front_of y) y) in
     let x : List ℕ = get_or v f.place [] in
     let inside : f.place < length v = omega (arith, f.inside, long) in
@@ -112,8 +112,8 @@ stands_before v test c among =
     was true x c stands = stands_take (length x - 1) x c stands
 
 pub low_kept : (v : List (List ℕ)) (lows : ℕ) (test : List ℕ → Bool) → list_any (is_loose v) v ≡ false → AreLow lows v
-    → AreLow lows (shed test v)
+    → AreLow lows (without_last_where test v)
 low_kept v lows test tight are c among =
-    let now = shed test v in
+    let now = without_last_where test v in
     are c (stands_before v test c among) ∙ ap (λ t. cond (not t) 1 0)
     (same_test (waits v (Some c)) (waits now (Some c)) (still_waits v test c tight) (fronts-wait now v (Some c) (shed-fronts test v)))

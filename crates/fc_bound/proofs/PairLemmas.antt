@@ -9,7 +9,7 @@ use Rattle.std.proofs.lemmas.List.Folds.{list_any_at}
 use Rattle.fc_position.specs.Board.{last_of}
 use Rattle.fc_cards.specs.Card.{all_cards}
 use Rattle.fc_bound.specs.Rows.{AreBits}
-use Rattle.fc_bound.specs.inner.Rows.{AreApart, Knotted, Mark, ends_in}
+use Rattle.fc_bound.specs.inner.Rows.{AreApart, TellsKnot, Mark, ends_in}
 use Rattle.fc_bound.specs.Knots.{has_last, ends_with, waits_in, waits_above, is_loose, are_knotted, first_with, first_knotted, second_knotted, ends_among, is_among, ring, is_in_knot}
 use Rattle.fc_bound.proofs.AboveLemmas.{not_true, and-true}
 use Rattle.fc_bound.proofs.BitLemmas.{is_one, one_bit_is, bits_or}
@@ -91,7 +91,7 @@ abbrev is_second : List (List ℕ) → ℕ → ℕ → Bool
 is_second columns u v = list_any (λ column. list_any (λ other. ends_with u (last_of other) && are_knotted other column) columns
     && ends_with v (last_of column)) columns
 
-second_at : (columns : List (List ℕ)) (u v : ℕ) → is_second columns u v ≡ true → Knotted columns u v false → ⊥
+second_at : (columns : List (List ℕ)) (u v : ℕ) → is_second columns u v ≡ true → TellsKnot columns u v false → ⊥
 second_at columns u v passes none =
     let f = found (λ column. list_any (λ other. ends_with u (last_of other) && are_knotted other column) columns && ends_with v (last_of column)) columns passes in
     let y : List ℕ = get_or columns f.place [] in
@@ -113,13 +113,13 @@ at_second columns i j u v one two knotted =
     (and_from (ends_with u (last_of x)) (are_knotted x y) (last_ends u (last_of x) one) knotted)) (last_ends v (last_of y) two))
 
 -- the other way round, the same are knotted
-pub knotted_turned : (columns : List (List ℕ)) (u v : ℕ) → Knotted columns u v false → Knotted columns v u false
+pub knotted_turned : (columns : List (List ℕ)) (u v : ℕ) → TellsKnot columns u v false → TellsKnot columns v u false
 knotted_turned columns u v none i j one two =
     not_true (are_knotted (get_or columns i []) (get_or columns j [])) (λ both.
     true≢false (sym (knotted_back (get_or columns i []) (get_or columns j []) both) ∙ none j i two one))
 
 -- where no card may leave at once, none is knotted with itself
-not_itself : (columns : List (List ℕ)) (u : ℕ) → AreApart columns → list_any (is_loose columns) columns ≡ false → Knotted columns u u false
+not_itself : (columns : List (List ℕ)) (u : ℕ) → AreApart columns → list_any (is_loose columns) columns ≡ false → TellsKnot columns u u false
 not_itself columns u apart tight i j one two =
     let x : List ℕ = get_or columns i [] in
     let free : is_loose columns x ≡ false = not_true (is_loose columns x) (λ loose.
@@ -129,7 +129,7 @@ not_itself columns u apart tight i j one two =
 
 -- a last card with which no other is knotted
 abbrev pub IsAlone : List (List ℕ) → ℕ → Type 0
-IsAlone columns u = (v : ℕ) → ends_among columns v ≡ true → Knotted columns u v false
+IsAlone columns u = (v : ℕ) → ends_among columns v ≡ true → TellsKnot columns u v false
 
 not_first : (columns : List (List ℕ)) (u : ℕ) → IsAlone columns u → is_first columns u ≡ false
 not_first columns u alone = not_true (is_first columns u) (λ passes.
@@ -138,7 +138,7 @@ not_first columns u alone = not_true (is_first columns u) (λ passes.
 
 -- all last cards are alone but those that are greater
 pub first_pair : (columns : List (List ℕ)) (u v : ℕ) → u < 52 → ends_among columns u ≡ true → ends_among columns v ≡ true
-    → Knotted columns u v true → ((w : ℕ) → w < u → ends_among columns w ≡ true → IsAlone columns w) → first_knotted columns ≡ u
+    → TellsKnot columns u v true → ((w : ℕ) → w < u → ends_among columns w ≡ true → IsAlone columns w) → first_knotted columns ≡ u
 first_pair columns u v below one two knotted less =
     let i = ends_at columns u one in
     let j = ends_at columns v two in
@@ -148,7 +148,7 @@ first_pair columns u v below one two knotted less =
     true≢false (sym passes ∙ not_first columns w (less w lt (at_ends columns k.one w k.first)))))
 
 pub second_pair : (columns : List (List ℕ)) (u v : ℕ) → v < 52 → ends_among columns u ≡ true → ends_among columns v ≡ true
-    → Knotted columns u v true → ((w : ℕ) → w < v → ends_among columns w ≡ true → Knotted columns u w false)
+    → TellsKnot columns u v true → ((w : ℕ) → w < v → ends_among columns w ≡ true → TellsKnot columns u w false)
     → first_knotted columns ≡ u → second_knotted columns ≡ v
 second_pair columns u v below one two knotted less first =
     let i = ends_at columns u one in
@@ -216,7 +216,7 @@ ring_marks columns bits are none = record {
 -- the others that have been gone over are alone, so a last card is knotted with none but those that are still to come
 pub alone_but : (columns : List (List ℕ)) (u rest v : ℕ) → AreApart columns → list_any (is_loose columns) columns ≡ false
     → ((w : ℕ) → ends_among columns w ≡ true → (bit_at rest w ≡ 1 → ⊥) → (w ≡ u → ⊥) → IsAlone columns w)
-    → ends_among columns u ≡ true → ends_among columns v ≡ true → (bit_at rest v ≡ 1 → Knotted columns u v false) → Knotted columns u v false
+    → ends_among columns u ≡ true → ends_among columns v ≡ true → (bit_at rest v ≡ 1 → TellsKnot columns u v false) → TellsKnot columns u v false
 alone_but columns u rest v apart tight before ends there none =
     ⊎_elim
     (λ e i j one two. not_itself columns u apart tight i j one (two ∙ ap Some e))

@@ -10,7 +10,7 @@ use Rattle.std.proofs.lemmas.List.Sorted.{list_any-IsPermutation}
 use Rattle.fc_cards.specs.Card.{rank, suit, all_cards}
 use Rattle.fc_cards.specs.declared.places.Place.{Place}
 use Rattle.fc_cards.specs.declared.places.Place.TheVariants.{Column, Cell, Home}
-use Rattle.fc_position.specs.Board.{Board, column, playable, lifted, placed, IsNext}
+use Rattle.fc_position.specs.Board.{Board, column, playable, board_without, board_with, IsNext}
 use Rattle.fc_position.specs.Position.{IsPosition}
 use Rattle.fc_position.proofs.BoardLemmas.{playable_below, homes-lifted}
 use Rattle.fc_moves.specs.declared.steps.Move.{Move}
@@ -35,13 +35,13 @@ use Rattle.fc_bound.proofs.RingHeld.{single-ring}
 
 -- a card that is lifted or placed changes for no other card what waits beneath it
 pub beneath-lifted : (b : Board) (from : Place) (u c e : ℕ) → playable b from ≡ Some u → u ≢ e
-    → waits_beneath (lifted b from).columns c e ≡ waits_beneath b.columns c e
+    → waits_beneath (board_without b from).columns c e ≡ waits_beneath b.columns c e
 beneath-lifted b (Column i) u c e last other = beneath-without b.columns i u c e last other
 beneath-lifted b (Cell i) u c e full other = refl
 beneath-lifted b Home u c e none other = refl
 
 pub beneath-placed : (b : Board) (u : ℕ) (to : Place) (c e : ℕ) → u ≢ e
-    → waits_beneath (placed b u to).columns c e ≡ waits_beneath b.columns c e
+    → waits_beneath (board_with b u to).columns c e ≡ waits_beneath b.columns c e
 beneath-placed b u (Column j) c e other =
     any-set (is_at_or_beneath c e) b.columns j (column b j ++ u ∷ []) (beneath-other c e u (column b j) other)
 beneath-placed b u (Cell j) c e other = refl
@@ -49,21 +49,21 @@ beneath-placed b u Home c e other = refl
 
 -- so a ring stays one where another card is lifted, and where it is placed
 ring-lifted : (b : Board) (from : Place) (u : ℕ) (ring : List ℕ) → playable b from ≡ Some u → (Contains ring u → ⊥)
-    → IsRing b.columns ring → IsRing (lifted b from).columns ring
+    → IsRing b.columns ring → IsRing (board_without b from).columns ring
 ring-lifted b from u ring there outside =
-    ring-kept b.columns (lifted b from).columns ring (λ c e here. beneath-lifted b from u c e there (not_in u e ring outside here))
+    ring-kept b.columns (board_without b from).columns ring (λ c e here. beneath-lifted b from u c e there (not_in u e ring outside here))
 
 ring-placed : (b : Board) (u : ℕ) (to : Place) (ring : List ℕ) → (Contains ring u → ⊥) → IsRing b.columns ring
-    → IsRing (placed b u to).columns ring
+    → IsRing (board_with b u to).columns ring
 ring-placed b u to ring outside =
-    ring-kept b.columns (placed b u to).columns ring (λ c e here. beneath-placed b u to c e (not_in u e ring outside here))
+    ring-kept b.columns (board_with b u to).columns ring (λ c e here. beneath-placed b u to c e (not_in u e ring outside here))
 
 pub rings_stay : RingsStay
 rings_stay g b c m u ring p step there outside r =
     let same : step.card ≡ u = let e = step.playable in cc in
-    let after : c ≡ placed (lifted b m.from) u m.to = step.after ∙ ap (λ v. placed (lifted b m.from) v m.to) same in
+    let after : c ≡ board_with (board_without b m.from) u m.to = step.after ∙ ap (λ v. board_with (board_without b m.from) v m.to) same in
     subst (λ x. IsRing x.columns ring) (sym after)
-    (ring-placed (lifted b m.from) u m.to ring outside (ring-lifted b m.from u ring there outside r))
+    (ring-placed (board_without b m.from) u m.to ring outside (ring-lifted b m.from u ring there outside r))
 
 -- a card of a ring waits, and a card that is next doesn't
 pub rings_keep : RingsKeepFromHome
@@ -104,12 +104,12 @@ abbrev ShowsLess : BoundKind → Board → ℕ → ℕ → ℕ → Type 0
 ShowsLess kind b number count note = (less : ℕ) × (number ≡ less + count) × IsShown kind b less note
 
 -- a next card that goes home is one card less that is not home
-bound-home : (b : Board) (u : ℕ) → length b.homes ≡ 4 → u < 52 → IsNext b.homes u → bound b ≡ bound (placed b u Home) + 1
+bound-home : (b : Board) (u : ℕ) → length b.homes ≡ 4 → u < 52 → IsNext b.homes u → bound b ≡ bound (board_with b u Home) + 1
 unfolding bound
 bound-home b u four below next =
-    let away = count-but_one u (is_away b) (is_away (placed b u Home)) below (λ c other. away-home b.homes u c four next other) in
+    let away = count-but_one u (is_away b) (is_away (board_with b u Home)) below (λ c other. away-home b.homes u c four next other) in
     let before : ◌≡◌ {A = ℕ} (cond (is_away b u) 1 0) 1 = go_before (slice_index b.homes (suit u)) (rank u) next in
-    let after : ◌≡◌ {A = ℕ} (cond (is_away (placed b u Home) u) 1 0) 0 =
+    let after : ◌≡◌ {A = ℕ} (cond (is_away (board_with b u Home) u) 1 0) 0 =
     go_after (slice_index (set b.homes (suit u) (rank u)) (suit u)) (rank u)
     (get_or-set_same b.homes (suit u) (rank u) 0 (omega arith)) in
     omega (arith, away, before, after)
@@ -121,57 +121,57 @@ bound-home b u four below next =
     go_after h r same = grind (arith, nat_tests)
 
 shown-home : (kind : BoundKind) (b : Board) (u number note : ℕ) → length b.homes ≡ 4 → u < 52 → IsNext b.homes u
-    → IsShown kind b number note → ShowsLess kind (placed b u Home) number 1 note
+    → IsShown kind b number note → ShowsLess kind (board_with b u Home) number 1 note
 shown-home Plain b u number note four below next is =
-    (bound (placed b u Home), is ∙ bound-home b u four below next, refl)
+    (bound (board_with b u Home), is ∙ bound-home b u four below next, refl)
 shown-home Clearing b u number note four below next (rings, f, is) =
-    (bound (placed b u Home) + length rings, omega (arith, is, bound-home b u four below next), (rings, f, refl))
+    (bound (board_with b u Home) + length rings, omega (arith, is, bound-home b u four below next), (rings, f, refl))
 
 -- the same of the board from which the card was lifted
 shown-sent : (kind : BoundKind) (b : Board) (from : Place) (u number note : ℕ) → IsPosition b → playable b from ≡ Some u
-    → IsNext b.homes u → IsShown kind (lifted b from) number note → ShowsLess kind (sent_home b from u) number 1 note
+    → IsNext b.homes u → IsShown kind (board_without b from) number note → ShowsLess kind (sent_home b from u) number 1 note
 shown-sent kind b from u number note p there next =
-    shown-home kind (lifted b from) u number note (ap length (homes-lifted b from) ∙ p.homes) (playable_below b from u p there)
+    shown-home kind (board_without b from) u number note (ap length (homes-lifted b from) ∙ p.homes) (playable_below b from u p there)
     (subst (λ h. IsNext h u) (sym (homes-lifted b from)) next)
 
 pub home_shows : HomeShowsOneLess
 home_shows kind g b c m number note p step home is =
-    let after : c ≡ sent_home b m.from step.card = step.after ∙ ap (placed (lifted b m.from) step.card) home in
+    let after : c ≡ sent_home b m.from step.card = step.after ∙ ap (board_with (board_without b m.from) step.card) home in
     subst (λ x. ShowsLess kind x number 1 note) (sym after)
     (shown-sent kind b m.from step.card number note p step.playable (subst (Takes g b step.card) home step.takes) is)
 
 -- a next card is not held back where it is lifted
-waits-lifted : (b : Board) (from : Place) (u : ℕ) → waits (lifted b from).columns (Some u) ≡ true → waits b.columns (Some u) ≡ true
-waits-lifted b (Column i) u waiting = fronts-wait (lifted b (Column i)).columns b.columns (Some u) (without-front b.columns i) waiting
+waits-lifted : (b : Board) (from : Place) (u : ℕ) → waits (board_without b from).columns (Some u) ≡ true → waits b.columns (Some u) ≡ true
+waits-lifted b (Column i) u waiting = fronts-wait (board_without b (Column i)).columns b.columns (Some u) (without-front b.columns i) waiting
 waits-lifted b (Cell i) u waiting = waiting
 waits-lifted b Home u waiting = waiting
 
-free-lifted : (b : Board) (from : Place) (u : ℕ) → IsPosition b → IsNext b.homes u → is_held_back (lifted b from) u ≡ false
-free-lifted b from u p next = not_true (is_held_back (lifted b from) u) (λ held.
-    let columns = (lifted b from).columns in
+free-lifted : (b : Board) (from : Place) (u : ℕ) → IsPosition b → IsNext b.homes u → is_held_back (board_without b from) u ≡ false
+free-lifted b from u p next = not_true (is_held_back (board_without b from) u) (λ held.
+    let columns = (board_without b from).columns in
     let waiting = ring-waits columns u (u ∷ []) (single-ring columns u held) (0, omega arith, refl) in
     true≢false (sym (waits-lifted b from u waiting) ∙ next_waits b u p next))
 
 -- so lifting a next card changes nothing in what is shown
 bound-lifted : (b : Board) (from : Place) (u : ℕ) → IsPosition b → playable b from ≡ Some u → IsNext b.homes u
-    → bound (lifted b from) ≡ bound b
+    → bound (board_without b from) ≡ bound b
 unfolding bound
 bound-lifted b from u p there next =
-    let away : count_by (is_away (lifted b from)) all_cards ≡ count_by (is_away b) all_cards =
+    let away : count_by (is_away (board_without b from)) all_cards ≡ count_by (is_away b) all_cards =
     ap (λ h. count_by (λ x. nat_lt (slice_index h (suit x)) (rank x)) all_cards) (homes-lifted b from) in
-    let held = count-same (is_held_back (lifted b from)) (is_held_back b) (λ c below. ⊎_elim
-    (λ e. subst (λ x. is_held_back (lifted b from) x ≡ is_held_back b x) e (free-lifted b from u p next ∙ sym (next_free b u p next)))
+    let held = count-same (is_held_back (board_without b from)) (is_held_back b) (λ c below. ⊎_elim
+    (λ e. subst (λ x. is_held_back (board_without b from) x ≡ is_held_back b x) e (free-lifted b from u p next ∙ sym (next_free b u p next)))
     (λ other. held-lifted b from u c there other) (cases_eq u c)) in
     omega (arith, away, held)
 
 family-lifted : (b : Board) (from : Place) (u cards : ℕ) (rings : List (List ℕ)) → IsPosition b → playable b from ≡ Some u
-    → IsNext b.homes u → IsFamily b.columns cards rings → IsFamily (lifted b from).columns cards rings
+    → IsNext b.homes u → IsFamily b.columns cards rings → IsFamily (board_without b from).columns cards rings
 family-lifted b from u cards rings p there next f =
-    family-kept b.columns (lifted b from).columns u cards rings (λ c e. beneath-lifted b from u c e there)
+    family-kept b.columns (board_without b from).columns u cards rings (λ c e. beneath-lifted b from u c e there)
     (λ c. held-lifted b from u c there) (λ k d below here. rings_keep b u (get_or rings k d) p (f.are k d below) here next) f
 
 shown-lifted : (kind : BoundKind) (b : Board) (from : Place) (u number note : ℕ) → IsPosition b → playable b from ≡ Some u
-    → IsNext b.homes u → IsShown kind b number note → IsShown kind (lifted b from) number note
+    → IsNext b.homes u → IsShown kind b number note → IsShown kind (board_without b from) number note
 shown-lifted Plain b from u number note p there next is = is ∙ sym (bound-lifted b from u p there next)
 shown-lifted Clearing b from u number note p there next (rings, f, is) = (
   rings,

@@ -12,7 +12,7 @@ use Rattle.std.proofs.lemmas.Nat.Bits.{bit_at-zero}
 use Rattle.fc_position.specs.Board.{last_of, front_of}
 use Rattle.fc_bound.specs.Clearing.{without, waits}
 use Rattle.fc_bound.specs.inner.Rows.{AreApart, Mark, ends_in}
-use Rattle.fc_bound.specs.Knots.{has_last, waits_above, is_loose, shed}
+use Rattle.fc_bound.specs.Knots.{has_last, waits_above, is_loose, without_last_where}
 use Rattle.fc_bound.proofs.AboveLemmas.{and-true, not_true}
 use Rattle.fc_bound.proofs.BitLemmas.{some_bit, no_bits}
 use Rattle.fc_bound.proofs.HeldLemmas.{found}
@@ -51,19 +51,19 @@ count_but_one p q (x ∷ xs) (suc i) inside agree =
 
 -- one more of them is gone
 pub record Goes (columns now : List (List ℕ)) (bits rest less u : ℕ) : Type 0 where
-  pub is : now ≡ shed (is_gone bits rest) columns
+  pub is : now ≡ without_last_where (is_gone bits rest) columns
   pub set : bit_at rest u ≡ 1
   pub among : bit_at bits u ≡ 1
   pub removed : (d : ℕ) → bit_at less d ≡ cond (d == u) 0 (bit_at rest d)
   pub apart : AreApart now
 
-now_at : (columns now : List (List ℕ)) (bits rest k : ℕ) → now ≡ shed (is_gone bits rest) columns → k < length columns
+now_at : (columns now : List (List ℕ)) (bits rest k : ℕ) → now ≡ without_last_where (is_gone bits rest) columns → k < length columns
     → get_or now k [] ≡ cond (is_gone bits rest (get_or columns k [])) (front_of (get_or columns k [])) (get_or columns k [])
 now_at columns now bits rest k is inside =
     ap (λ v. get_or v k []) is ∙ get_or-map (λ x. cond (is_gone bits rest x) (front_of x) x) columns k [] [] inside
 
 -- a last card that is still among the rest stays
-pub stays : (columns now : List (List ℕ)) (bits rest k u : ℕ) → now ≡ shed (is_gone bits rest) columns → k < length columns
+pub stays : (columns now : List (List ℕ)) (bits rest k u : ℕ) → now ≡ without_last_where (is_gone bits rest) columns → k < length columns
     → bit_at rest u ≡ 1 → last_of (get_or columns k []) ≡ Some u → get_or now k [] ≡ get_or columns k []
 stays columns now bits rest k u is inside set last =
     let x : List ℕ = get_or columns k [] in
@@ -104,7 +104,7 @@ gone_now columns now bits rest less u i g last =
     ∙ ap (λ (n : ℕ). true && not (n == 1)) (g.removed u ∙ ap (λ t. cond t 0 (bit_at rest u)) test)
 
 pub one_gone : (columns now : List (List ℕ)) (bits rest less u i : ℕ) → Goes columns now bits rest less u → i < length columns
-    → last_of (get_or columns i []) ≡ Some u → without now i ≡ shed (is_gone bits less) columns
+    → last_of (get_or columns i []) ≡ Some u → without now i ≡ without_last_where (is_gone bits less) columns
 one_gone columns now bits rest less u i g inside last =
     let lost : List ℕ = front_of (get_or now i []) in
     let long : length now ≡ length columns = ap (λ (v : List (List ℕ)). length v) g.is ∙ length-map columns (λ x. cond (is_gone bits rest x) (front_of x) x) in
@@ -144,7 +144,7 @@ none_gone bits x = go (ends_in bits (last_of x))
     go true = refl
     go false = refl
 
-pub first_gone : (columns : List (List ℕ)) (bits : ℕ) → columns ≡ shed (is_gone bits bits) columns
+pub first_gone : (columns : List (List ℕ)) (bits : ℕ) → columns ≡ without_last_where (is_gone bits bits) columns
 first_gone columns bits =
     shed_all (is_gone bits bits) columns columns refl
     (λ k below. sym (ap (λ t. cond t (front_of (get_or columns k [])) (get_or columns k [])) (none_gone bits (get_or columns k []))))
@@ -164,8 +164,8 @@ all_gone bits rest (Some u) none =
     ap (λ (n : ℕ). (bit_at bits u == 1) && not (n == 1)) (ap (λ n. bit_at n u) none ∙ bit_at-zero u) ∙ and-true (bit_at bits u == 1)
 
 pub last_gone : (columns : List (List ℕ)) (bits rest : ℕ) → rest ≡ 0
-    → shed (is_gone bits rest) columns ≡ shed (λ x. ends_in bits (last_of x)) columns
-last_gone columns bits rest none = ap (λ test. shed test columns) (λ i x. all_gone bits rest (last_of x) none i)
+    → without_last_where (is_gone bits rest) columns ≡ without_last_where (λ x. ends_in bits (last_of x)) columns
+last_gone columns bits rest none = ap (λ test. without_last_where test columns) (λ i x. all_gone bits rest (last_of x) none i)
 
 pub last_met : (columns : List (List ℕ)) (bits rest : ℕ) → rest ≡ 0
     → count_by (λ x. is_gone bits rest x && waits_above x) columns ≡ count_by (λ x. ends_in bits (last_of x) && waits_above x) columns

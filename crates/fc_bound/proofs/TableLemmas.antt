@@ -9,7 +9,7 @@ use Rattle.std.proofs.lemmas.List.{get_or-set_same, get_or-set_other, set-set, s
 use Rattle.std.proofs.lemmas.List.Folds.{list_any_at}
 use Rattle.std.proofs.lemmas.Nat.Bits.{bit_at_and, bit_at-lt, bit_at-zero}
 use Rattle.std.proofs.lemmas.Option.{slice_get-get_or}
-use Rattle.fc_position.specs.Board.{Board, column, last_of, front_of, lifted, count_in_column}
+use Rattle.fc_position.specs.Board.{Board, column, last_of, front_of, board_without, count_in_column}
 use Rattle.fc_position.specs.Position.{IsPosition}
 use Rattle.fc_position.proofs.BoardLemmas.{front_last}
 use Rattle.fc_cards.specs.declared.places.Place.TheVariants.{Column}
@@ -46,7 +46,7 @@ pub table_lifted : (b : Board) (t : ColumnTable) (i u all lasts held : ℕ) → 
     → IsWithout t.marks.all u all
     → ((c : ℕ) → bit_at lasts c ≡ max (cond (c == u) 0 (bit_at t.marks.lasts c)) (bit_at (get_or t.rows u no_row).beneath c))
     → IsWithout t.marks.held u held
-    → IsTableOf (lifted b (Column i)).columns (record { rows = t.rows; marks = record { all = all; lasts = lasts; held = held } })
+    → IsTableOf (board_without b (Column i)).columns (record { rows = t.rows; marks = record { all = all; lasts = lasts; held = held } })
 table_lifted b t i u all lasts held p table last less ends fewer =
     let v : List (List ℕ) = left_in t.marks.all b.columns in
     let whole : v ≡ b.columns = left_whole t.marks.all b.columns table.all in

@@ -8,7 +8,7 @@ use Rattle.std.proofs.lemmas.List.Folds.{list_any_at}
 use Rattle.std.proofs.lemmas.List.Sums.{sum_by-cons}
 use Rattle.fc_position.specs.Board.{last_of, front_of}
 use Rattle.fc_bound.specs.Clearing.{cards_in}
-use Rattle.fc_bound.specs.Knots.{has_last, waits_above, is_loose, is_in_knot, shed, knot_count}
+use Rattle.fc_bound.specs.Knots.{has_last, waits_above, is_loose, is_in_knot, without_last_where, knot_count}
 use Rattle.fc_bound.specs.inner.Rows.{waiting_of, waiting_in}
 use Rattle.fc_bound.proofs.AboveLemmas.{not_true}
 use Rattle.fc_bound.proofs.HeldLemmas.{bit_most}
@@ -63,24 +63,24 @@ waiting_one false x goes =
 -- where each column whose last card waits for one beneath it loses it, so many fewer wait
 waiting_shed : (test : List ℕ → Bool) (columns : List (List ℕ))
     → ((k : ℕ) → k < length columns → waits_above (get_or columns k []) ≡ true → test (get_or columns k []) ≡ true)
-    → waiting_in columns ≡ count_by waits_above columns + waiting_in (shed test columns)
+    → waiting_in columns ≡ count_by waits_above columns + waiting_in (without_last_where test columns)
 waiting_shed test [] goes = refl
 waiting_shed test (x ∷ xs) goes = omega (
   arith,
   sum_by-cons (λ (column : List ℕ). waiting_of (length column) column) x xs,
   sum_by-cons (λ (column : List ℕ). cond (waits_above column) 1 0) x xs,
-  sum_by-cons (λ (column : List ℕ). waiting_of (length column) column) (cond (test x) (front_of x) x) (shed test xs),
+  sum_by-cons (λ (column : List ℕ). waiting_of (length column) column) (cond (test x) (front_of x) x) (without_last_where test xs),
   waiting_one (test x) x (goes 0 (omega arith)),
   waiting_shed test xs (λ k inside. goes (suc k) (omega (arith, inside))),
 )
 
 pub waiting_loose : (columns : List (List ℕ))
-    → waiting_in columns ≡ count_by waits_above columns + waiting_in (shed (is_loose columns) columns)
+    → waiting_in columns ≡ count_by waits_above columns + waiting_in (without_last_where (is_loose columns) columns)
 waiting_loose columns = waiting_shed (is_loose columns) columns (λ k inside above. above_loose columns (get_or columns k []) above)
 
 -- where no card is loose, as many wait afterwards
 pub waiting_tight : (columns : List (List ℕ)) → list_any (is_loose columns) columns ≡ false
-    → waiting_in columns ≡ waiting_in (shed (is_in_knot columns) columns)
+    → waiting_in columns ≡ waiting_in (without_last_where (is_in_knot columns) columns)
 waiting_tight columns tight =
     omega (
       arith,
@@ -91,21 +91,21 @@ waiting_tight columns tight =
 
 -- the count of knots by one step
 pub count_loose : (columns : List (List ℕ)) → list_any (is_loose columns) columns ≡ true
-    → knot_count columns ≡ count_by waits_above columns + knot_count (shed (is_loose columns) columns)
+    → knot_count columns ≡ count_by waits_above columns + knot_count (without_last_where (is_loose columns) columns)
 count_loose columns loose =
     let few = loose_fewer columns loose in
     let steps : ℕ = cards_in columns - 1 in
     let all = knots_count (suc steps) columns (omega (arith, few)) in
-    let rest = knots_count steps (shed (is_loose columns) columns) (omega (arith, few)) in
+    let rest = knots_count steps (without_last_where (is_loose columns) columns) (omega (arith, few)) in
     omega (arith, all, knots_loose columns loose steps, rest)
 
 pub count_knot : (columns : List (List ℕ)) → list_any (is_loose columns) columns ≡ false
-    → list_any (λ column. has_last (last_of column)) columns ≡ true → knot_count columns ≡ 1 + knot_count (shed (is_in_knot columns) columns)
+    → list_any (λ column. has_last (last_of column)) columns ≡ true → knot_count columns ≡ 1 + knot_count (without_last_where (is_in_knot columns) columns)
 count_knot columns tight some_last =
     let few = shed_knot columns some_last in
     let steps : ℕ = cards_in columns - 1 in
     let all = knots_count (suc steps) columns (omega (arith, few)) in
-    let rest = knots_count steps (shed (is_in_knot columns) columns) (omega (arith, few)) in
+    let rest = knots_count steps (without_last_where (is_in_knot columns) columns) (omega (arith, few)) in
     omega (arith, all, knots_knot columns tight some_last steps, rest)
 
 pub count_none : (columns : List (List ℕ)) → list_any (is_loose columns) columns ≡ false
@@ -124,14 +124,14 @@ waiting_met (suc n) columns few =
       arith,
       waiting_loose columns,
       count_loose columns loose,
-      waiting_met n (shed (is_loose columns) columns) (omega (arith, few, loose_fewer columns loose)),
+      waiting_met n (without_last_where (is_loose columns) columns) (omega (arith, few, loose_fewer columns loose)),
     ))
     (λ tight. ⊎_elim
     (λ some_last. omega (
       arith,
       waiting_tight columns tight,
       count_knot columns tight some_last,
-      waiting_met n (shed (is_in_knot columns) columns) (omega (arith, few, shed_knot columns some_last)),
+      waiting_met n (without_last_where (is_in_knot columns) columns) (omega (arith, few, shed_knot columns some_last)),
     ))
     (λ none. omega (arith, (count_none columns tight none).1))
     (cases_Bool (list_any (λ column. has_last (last_of column)) columns)))

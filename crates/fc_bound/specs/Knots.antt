@@ -95,8 +95,8 @@ is_in_knot columns column =
     (ends_with (first_knotted columns) (last_of column) || ends_with (second_knotted columns) (last_of column))
 
 -- the columns, where those that pass the test have lost their last card
-abbrev pub shed : (List ℕ → Bool) → List (List ℕ) → List (List ℕ)
-shed test columns = map (λ column. cond (test column) (front_of column) column) columns
+abbrev pub without_last_where : (List ℕ → Bool) → List (List ℕ) → List (List ℕ)
+without_last_where test columns = map (λ column. cond (test column) (front_of column) column) columns
 
 -- how many knots are met in so many steps: loose cards go first, at one where they wait for a card beneath them; where
 -- none is loose, two knotted columns, or else those of a ring, lose their last card, at one
@@ -104,8 +104,8 @@ unfoldable pub knots : ℕ → List (List ℕ) → ℕ
 knots zero columns = 0
 knots (suc steps) columns =
     cond (list_any (is_loose columns) columns)
-    (count_by waits_above columns + knots steps (shed (is_loose columns) columns))
-    (cond (list_any (λ column. has_last (last_of column)) columns) (1 + knots steps (shed (is_in_knot columns) columns)) 0)
+    (count_by waits_above columns + knots steps (without_last_where (is_loose columns) columns))
+    (cond (list_any (λ column. has_last (last_of column)) columns) (1 + knots steps (without_last_where (is_in_knot columns) columns)) 0)
 
 -- how many knots are met until no card is left
 unfoldable pub knot_count : List (List ℕ) → ℕ

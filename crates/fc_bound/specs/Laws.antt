@@ -1,7 +1,7 @@
 -- What the laws of this crate state.
 use Rattle.std.specs.Prelude.{◌≡◌, ◌≢◌, ℕ, ◌+◌, ◌≤◌, ◌↔◌, IsTrue, false, cond, length, List, [], ◌∷◌, Some, slice_index_or, All, AllPairs, Contains}
 use Rattle.fc_cards.specs.declared.places.Place.TheVariants.{Home}
-use Rattle.fc_position.specs.Board.{Board, playable, last_of, lifted, IsHome, IsNext}
+use Rattle.fc_position.specs.Board.{Board, playable, last_of, board_without, IsHome, IsNext}
 use Rattle.fc_position.specs.Position.{IsPosition}
 use Rattle.fc_moves.specs.declared.steps.Move.{Move}
 use Rattle.fc_moves.specs.GameRules.{GameRules}
@@ -138,7 +138,7 @@ ClassMatesShowTheSame = (kind : BoundKind) (b c : Board) (number note : ℕ) →
 -- once a card is lifted and goes home, one less is shown by the same note
 abbrev pub HomeShowsOneLess : Type 0
 HomeShowsOneLess = (kind : BoundKind) (g : GameRules) (b c : Board) (m : Move) (number note : ℕ) → IsPosition b → Step g b m c → m.to ≡ Home
-    → IsShown kind (lifted b m.from) number note → (less : ℕ) × (number ≡ less + 1) × IsShown kind c less note
+    → IsShown kind (board_without b m.from) number note → (less : ℕ) × (number ≡ less + 1) × IsShown kind c less note
 
 -- once a position has settled, one less for each move is shown by the same note
 abbrev pub SettlingShowsOneLessEach : Type 0

@@ -1,3 +1,4 @@
 -- What this crate's own functions and proofs speak of, and no public promise.
 pub mod Rows
+pub mod Steps
 pub mod Tied

@@ -2,7 +2,7 @@
 
 ghost use Rattle.std.specs.Prelude.{◌≡◌, ◌<◌, ◌↔◌, ℕ, Some, IfSome, length};
 ghost use Rattle.std.specs.Int.{bit_at};
-ghost use Rattle.fc_position.specs.Board.{Board, column, last_of, front_of, lifted};
+ghost use Rattle.fc_position.specs.Board.{Board, column, last_of, front_of, board_without};
 ghost use Rattle.fc_position.specs.Position.{IsPosition};
 ghost use Rattle.fc_cards.specs.declared.places.Place.TheVariants.{Column};
 ghost use Rattle.fc_bound.specs.Bound.{is_held_back};
@@ -74,7 +74,7 @@ impl ColumnTable {
     #[inline]
     pub fn lift(&mut self, position: &Position, from: Place)
         requires table { IsTableOf position.now.columns self.old }
-        ensures table { IsTableOf (lifted position.now from).columns self.new }
+        ensures table { IsTableOf (board_without position.now from).columns self.new }
         ensures whole { IsPosition position.now }
     {
         match (from, position.playable(from)) {
@@ -94,7 +94,7 @@ impl ColumnTable {
     /// Puts the playable card of a place back into the table of the position's columns without it.
     #[inline]
     pub fn put(&mut self, position: &Position, to: Place)
-        requires table { IsTableOf (lifted position.now to).columns self.old }
+        requires table { IsTableOf (board_without position.now to).columns self.old }
         ensures table { IsTableOf position.now.columns self.new }
         ensures whole { IsPosition position.now }
     {
@@ -115,7 +115,7 @@ impl ColumnTable {
         requires below { IfSome below (λ n. n < 52) }
         requires long { length self.old.rows ≡ 52 }
         ensures table { (b : Board) (i : ℕ) → IsPosition b → last_of (column b i) ≡ Some index → last_of (front_of (column b i)) ≡ below
-            → IsTableOf (lifted b (Column i)).columns self.old → IsTableOf b.columns self.new }
+            → IsTableOf (board_without b (Column i)).columns self.old → IsTableOf b.columns self.new }
     {
         let (waiting, beneath, lasts) = match below {
             Some(below) => (

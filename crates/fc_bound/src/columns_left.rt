@@ -7,8 +7,8 @@ ghost use Rattle.fc_bound.specs.Bound.{is_above_lower};
 ghost use Rattle.fc_cards.specs.Card.{suit};
 ghost use Rattle.fc_bound.specs.Clearing.{waits, without};
 ghost use Rattle.fc_bound.specs.Rows.{AreBits, AreRows, stands_among};
-ghost use Rattle.fc_bound.specs.inner.Rows.{Mark, AreApart, AreLow, Knotted, ends_in, is_set, waiting_in};
-ghost use Rattle.fc_bound.specs.Knots.{has_last, waits_in, waits_above, is_loose, are_knotted, waits_among, is_ring, ring, is_in_knot, shed, ends_among};
+ghost use Rattle.fc_bound.specs.inner.Rows.{Mark, AreApart, AreLow, TellsKnot, ends_in, is_set, waiting_in};
+ghost use Rattle.fc_bound.specs.Knots.{has_last, waits_in, waits_above, is_loose, are_knotted, waits_among, is_ring, ring, is_in_knot, without_last_where, ends_among};
 
 use crate::bits::{above, least, remove, suit_cards};
 use crate::waiting_rows::{Marks, Rows};
@@ -106,7 +106,7 @@ impl<'a> Left<'a> {
     #[inline]
     pub(crate) fn shed(&mut self, bits: u64) -> u8
         requires lasts { (u : ℕ) → bit_at bits u ≡ 1 → ends_among self.old u ≡ true }
-        ensures value { self.new ≡ shed (λ column. ends_in bits (last_of column)) self.old }
+        ensures value { self.new ≡ without_last_where (λ column. ends_in bits (last_of column)) self.old }
         ensures met { result ≡ count_by (λ column. ends_in bits (last_of column) && waits_above column) self.old }
     {
         let mut met = 0;
@@ -192,7 +192,7 @@ impl<'a> Left<'a> {
     pub(crate) fn take_loose(&mut self) -> Option<u8>
         ensures met { IfSome result (λ met. met ≡ count_by waits_above self.old) }
         ensures some_loose { IfSome result (λ met. list_any (is_loose self.old) self.old ≡ true) }
-        ensures taken { IfSome result (λ met. self.new ≡ shed (is_loose self.old) self.old) }
+        ensures taken { IfSome result (λ met. self.new ≡ without_last_where (is_loose self.old) self.old) }
         ensures none_loose { IfNone result (list_any (is_loose self.old) self.old ≡ false) }
         ensures same { IfNone result (self.new ≡ self.old) }
     {
@@ -231,9 +231,9 @@ impl<'a> Left<'a> {
         requires one { ends_among self.now u ≡ true }
         requires others { (v : ℕ) → bit_at others v ≡ 1 → ends_among self.now v ≡ true }
         ensures set { IfSome result (λ v. bit_at others v ≡ 1) }
-        ensures knotted { IfSome result (λ v. Knotted self.now u v true) }
-        ensures least { IfSome result (λ v. (w : ℕ) → w < v → bit_at others w ≡ 1 → Knotted self.now u w false) }
-        ensures none { IfNone result ((w : ℕ) → bit_at others w ≡ 1 → Knotted self.now u w false) }
+        ensures knotted { IfSome result (λ v. TellsKnot self.now u v true) }
+        ensures least { IfSome result (λ v. (w : ℕ) → w < v → bit_at others w ≡ 1 → TellsKnot self.now u w false) }
+        ensures none { IfNone result ((w : ℕ) → bit_at others w ≡ 1 → TellsKnot self.now u w false) }
     {
         // None of them is knotted with it but those that wait for a card of its column.
         let mut rest = others & self.rows[u as usize].waiting;

@@ -1,9 +1,9 @@
 //! What is shown of a position, a number and a note, carried from position to position.
 
-ghost use Rattle.std.specs.Prelude.{◌≡◌, ◌≢◌, ℕ, ◌<◌, ◌≤◌, ◌^◌, false, true, Some, IfSome, IsSome};
+ghost use Rattle.std.specs.Prelude.{◌≡◌, ℕ, ◌<◌, ◌≤◌, ◌^◌, false, true, Some, IfSome, IsSome};
 ghost use Rattle.std.specs.Int.{bit_at};
-ghost use Rattle.fc_cards.specs.declared.places.Place.TheVariants.{Column, Home};
-ghost use Rattle.fc_position.specs.Board.{Board, column, last_of, lifted, playable};
+ghost use Rattle.fc_cards.specs.declared.places.Place.TheVariants.{Column};
+ghost use Rattle.fc_position.specs.Board.{Board, column, last_of, board_without, playable};
 ghost use Rattle.fc_position.specs.Position.{IsPosition};
 ghost use Rattle.fc_moves.specs.declared.steps.Move.{Move};
 ghost use Rattle.fc_moves.specs.GameRules.{GameRules};
@@ -13,6 +13,7 @@ ghost use Rattle.fc_bound.specs.Bound.{is_held_back};
 ghost use Rattle.fc_bound.specs.Kinds.{IsShown};
 ghost use Rattle.fc_bound.specs.Knots.{ends_among};
 ghost use Rattle.fc_bound.specs.Rows.{IsTableOf};
+ghost use Rattle.fc_bound.specs.inner.Steps.{OfEachStep};
 
 use crate::bounds::{GREATEST_BOUND, is_held_back};
 use crate::fares::is_held_there;
@@ -49,7 +50,7 @@ impl BoundKind {
     ) -> Shown
         requires table { IsTableOf position.now.columns table.now }
         requires shown { IsShown self position.now shown.number shown.note }
-        ensures shown { IsShown self (lifted position.now from) result.number result.note }
+        ensures shown { IsShown self (board_without position.now from) result.number result.note }
         ensures most { result.number ≤ GREATEST_BOUND }
         ensures whole { IsPosition position.now }
         ensures cards { shown.note < 2 ^ 52 → result.note < 2 ^ 52 }
@@ -74,7 +75,7 @@ impl BoundKind {
         requires card { card < 52 }
         requires last { ends_among position.now.columns card ≡ true }
         requires shown { IsShown self position.now shown.number shown.note }
-        ensures shown { (i : ℕ) → last_of (column position.now i) ≡ Some card → IsShown self (lifted position.now (Column i)) result.number result.note }
+        ensures shown { (i : ℕ) → last_of (column position.now i) ≡ Some card → IsShown self (board_without position.now (Column i)) result.number result.note }
         ensures cards { shown.note < 2 ^ 52 → result.note < 2 ^ 52 }
     {
         if is_held(position, table, card) {
@@ -101,7 +102,7 @@ impl BoundKind {
         most: u8,
     ) -> Shown
         requires table { IsTableOf position.now.columns table.now }
-        requires kept { IsShown self (lifted position.now to) kept.number kept.note }
+        requires kept { IsShown self (board_without position.now to) kept.number kept.note }
         ensures shown { IsShown self position.now result.number result.note }
         ensures most { result.number ≤ GREATEST_BOUND }
         ensures whole { IsPosition position.now }
@@ -134,7 +135,7 @@ impl BoundKind {
         requires table { IsTableOf position.now.columns table.now }
         requires card { card < 52 }
         requires last { ends_among position.now.columns card ≡ true }
-        requires kept { (i : ℕ) → last_of (column position.now i) ≡ Some card → IsShown self (lifted position.now (Column i)) kept.number kept.note }
+        requires kept { (i : ℕ) → last_of (column position.now i) ≡ Some card → IsShown self (board_without position.now (Column i)) kept.number kept.note }
         ensures shown { IsShown self position.now result.number result.note }
         ensures cards { kept.note < 2 ^ 52 → result.note < 2 ^ 52 }
     {
@@ -197,9 +198,8 @@ impl BoundKind {
     ) -> Option<Shown>
         requires card { card < 52 }
         requires most { shown.number ≤ GREATEST_BOUND }
-        ensures known { IfSome result (λ known. (g : GameRules) (b z : Board) (step : Step g b m z) → IsPosition b → step.card ≡ card
-            → held ≡ is_held_back b card → (m.to ≢ Home → there ≡ is_held_back z card) → IsShown self b shown.number shown.note
-            → IsShown self z known.number known.note) }
+        ensures known { IfSome result (λ known. OfEachStep m card held there
+            (λ b z. IsShown self b shown.number shown.note → IsShown self z known.number known.note)) }
         ensures plain { self ≡ Plain → IsSome result }
     {
         if self.is_noted(card, shown.note) && !held {

@@ -2,7 +2,7 @@
 
 ghost use Rattle.std.specs.Prelude.{◌≡◌, ◌≢◌, ◌+◌, ◌≤◌, IfSome};
 ghost use Rattle.fc_cards.specs.declared.places.Place.TheVariants.{Home};
-ghost use Rattle.fc_position.specs.Board.{Board, lifted};
+ghost use Rattle.fc_position.specs.Board.{Board, board_without};
 ghost use Rattle.fc_position.specs.Position.{IsPosition};
 ghost use Rattle.fc_moves.specs.declared.steps.Move.{Move};
 ghost use Rattle.fc_moves.specs.GameRules.{GameRules};
@@ -45,7 +45,7 @@ pub(crate) fn bound_after(position: &Position, m: Move, low: u8) -> Option<u8>
 // What the playable card of a place adds to the knot bound, where that is plain to see: the position without the card has so much
 // less. `None` where it would have to be counted.
 fn fare(position: &Position, from: Place) -> Option<u8>
-    ensures fare { IfSome result (λ fare. knot_bound position.now ≡ fare + knot_bound (lifted position.now from)) }
+    ensures fare { IfSome result (λ fare. knot_bound position.now ≡ fare + knot_bound (board_without position.now from)) }
     ensures whole { IsPosition position.now }
 {
     let held = is_held_back(position, from);
@@ -60,7 +60,7 @@ fn fare(position: &Position, from: Place) -> Option<u8>
 // to be counted.
 fn fare_there(position: &Position, card: Card, to: Place) -> Option<u8>
     ensures fare { IfSome result (λ fare. (g : GameRules) (z : Board) (m : Move) (step : Step g position.now m z) → step.card ≡ card → m.to ≡ to
-        → knot_bound z ≡ fare + knot_bound (lifted z to)) }
+        → knot_bound z ≡ fare + knot_bound (board_without z to)) }
     ensures most { IfSome result (λ fare. fare ≤ 1) }
     ensures whole { IsPosition position.now }
 {

@@ -7,7 +7,7 @@ use Rattle.fc_moves.specs.inner.GameLaws.{All-from_members}
 use Rattle.fc_moves.specs.GameRules.{GameRules, IsGame, IsPositionOf}
 use Rattle.fc_moves.specs.Run.{Wins}
 use Rattle.fc_home.specs.declared.settling.TheConstants.{GREATEST_RULE}
-use Rattle.fc_canonical.specs.Spelled.{spelled, IsKeyIn, IsKeyFor}
+use Rattle.fc_canonical.specs.Spelled.{board_of_bytes, IsKeyIn, IsKeyFor}
 use Rattle.fc_canonical.proofs.FitLemmas.{fits_by_count}
 use Rattle.fc_bound.specs.declared.kinds.BoundKind.{BoundKind}
 use Rattle.fc_bound.specs.declared.kinds.BoundKind.TheVariants.{Plain, Clearing}
@@ -57,7 +57,7 @@ certificates_true g b bytes claimed position certificate = shown_true g b certif
 key_for : (g : GameRules) (key : List ℕ) → IsKeyIn g key → IsKeyFor g.cells key
 key_for g key here = record {
   position = here.position.position;
-  few = (fits_by_count g.cells (spelled key) here.position.position here.ordered).0 here.position.fits;
+  few = (fits_by_count g.cells (board_of_bytes key) here.position.position here.ordered).0 here.position.fits;
   ordered = here.ordered;
   bytes = here.bytes;
 }

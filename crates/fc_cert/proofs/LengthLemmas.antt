@@ -9,7 +9,7 @@ use Rattle.fc_moves.specs.inner.GameLaws.{All-from_members}
 use Rattle.fc_moves.specs.GameRules.{GameRules}
 use Rattle.fc_moves.specs.MoveText.{move_text}
 use Rattle.fc_moves.proofs.ClassLemmas.{class-refl}
-use Rattle.fc_canonical.specs.Spelled.{spelled, IsKeyIn}
+use Rattle.fc_canonical.specs.Spelled.{board_of_bytes, IsKeyIn}
 use Rattle.fc_canonical.proofs.KeyLemmas.{key_most}
 use Rattle.fc_bound.specs.declared.kinds.BoundKind.{BoundKind}
 use Rattle.fc_answers.specs.declared.answers.TheConstants.{MOST_MOVES}
@@ -106,8 +106,8 @@ records_short (row ∷ rows) all =
 
 key_short : (g : GameRules) (key : List ℕ) → IsKeyIn g key → length key ≤ 68
 key_short g key is =
-    key_most (spelled key) key is.position.position
-    (record { canonical = spelled key; class = class-refl (spelled key); ordered = is.ordered; bytes = is.bytes })
+    key_most (board_of_bytes key) key is.position.position
+    (record { canonical = board_of_bytes key; class = class-refl (board_of_bytes key); ordered = is.ordered; bytes = is.bytes })
 
 rows_short : (g : GameRules) (table : Listing) → IsTable g table → length (rows_bytes table.rows) ≤ 4 + length table.rows * 72
 rows_short g table listed =

@@ -10,7 +10,7 @@ use Rattle.fc_moves.specs.declared.steps.Move.{Move}
 use Rattle.fc_moves.specs.MoveText.{place_letter, IsThere}
 use Rattle.fc_moves.proofs.StepLemmas.{move_same, source_is_there}
 use Rattle.fc_canonical.specs.Key.{HasExtent}
-use Rattle.fc_canonical.specs.Spelled.{IsKeyFor, spelled}
+use Rattle.fc_canonical.specs.Spelled.{IsKeyFor, board_of_bytes}
 use Rattle.fc_canonical.proofs.KeyLemmas.{same_fronts, key_extents}
 use Rattle.fc_canonical.proofs.SpelledLemmas.{extent_once}
 use Rattle.fc_bound.specs.declared.kinds.BoundKind.{BoundKind}
@@ -206,7 +206,7 @@ judged_once cells kind number before cost key rest x y =
 -- a key at the front is the extent there
 pub key_has_extent : (cells : ℕ) (key rest : List ℕ) → IsKeyFor cells key → HasExtent (key ++ rest) (length key)
 key_has_extent cells key rest k =
-    (key_extents (key ++ rest) (spelled key) (length key) (length key) (record {
+    (key_extents (key ++ rest) (board_of_bytes key) (length key) (length key) (record {
       position = k.position;
       ordered = k.ordered;
       rest = rest;

@@ -4,7 +4,7 @@ use Rattle.std.specs.List.{flat_map}
 use Rattle.std.proofs.lemmas.List.{length-append, drop_at}
 use Rattle.std.proofs.lemmas.List.Elements.{All-head, All-tail}
 use Rattle.fc_canonical.specs.Key.{BeginsWithKey}
-use Rattle.fc_canonical.specs.Spelled.{spelled}
+use Rattle.fc_canonical.specs.Spelled.{board_of_bytes}
 use Rattle.fc_cert.specs.declared.contents.Kind.{Kind}
 use Rattle.fc_cert.specs.Content.{IsRecord, four_bytes, record_bytes}
 use Rattle.fc_cert.specs.inner.Layout.{AreRecords, ends_from}
@@ -15,7 +15,7 @@ module _ (cells : ℕ) (kind : Kind) (bytes : List ℕ) (row : List ℕ × ℕ) 
   pub behind_cost : drop 4 bytes ≡ row.0 ++ rest
   behind_cost = ap (drop 4) (e ∙ append_assoc (four_bytes row.1) row.0 rest) ∙ drop_at (four_bytes row.1) (row.0 ++ rest) 4 refl
 
-  pub begins : (from_key : List ℕ) → from_key ≡ drop 4 bytes → BeginsWithKey from_key (spelled row.0) (length row.0)
+  pub begins : (from_key : List ℕ) → from_key ≡ drop 4 bytes → BeginsWithKey from_key (board_of_bytes row.0) (length row.0)
   begins from_key behind = record {
     position = is.key.position;
     ordered = is.key.ordered;

@@ -9,10 +9,10 @@ use Rattle.fc_position.specs.Position.{IsPosition, IsWon}
 use Rattle.fc_moves.specs.GameRules.{GameRules, IsPositionOf}
 use Rattle.fc_canonical.specs.Key.{BeginsWithBoard, board_bytes}
 use Rattle.fc_canonical.specs.Order.{IsCanonical}
-use Rattle.fc_canonical.specs.Spelled.{IsKeyIn, IsKeyFor, spelled}
+use Rattle.fc_canonical.specs.Spelled.{IsKeyIn, IsKeyFor, board_of_bytes}
 use Rattle.fc_canonical.proofs.FitLemmas.{canonical_fits, keys_by_cells}
 use Rattle.fc_bound.specs.Kinds.{low_of}
-use Rattle.fc_tables.specs.Table.{IsClosed, IsClosedBelow, ListsFitting, Covered, StepsCovered, StepsListed, as_boards}
+use Rattle.fc_tables.specs.Table.{IsClosed, IsClosedBelow, ListsFitting, IsCoveredBelow, StepsCovered, StepsListed, as_boards}
 use Rattle.fc_bound.proofs.KindLemmas.{bounds_lower}
 use Rattle.fc_home.proofs.EveryLemmas.{every_settles}
 use Rattle.fc_tables.proofs.LookLemmas.{one_enough, one_enough_listed, seen_below, seen_closed}
@@ -40,17 +40,17 @@ row_holds g c row records (k, lt, e) = records k row lt (slice_get-get_or c.rows
 
 -- the position at the front of a row's key is the one that the key spells
 pub row_position : (c : Content) (i : ℕ) (row : List ℕ × ℕ) (x : Board) → IsContent c → slice_get c.rows i ≡ Some row
-    → ((b : Board) → IsPosition b → BeginsWithBoard row.0 b → x ≡ b) → x ≡ spelled row.0
+    → ((b : Board) → IsPosition b → BeginsWithBoard row.0 b → x ≡ b) → x ≡ board_of_bytes row.0
 row_position c i row x is there read =
     let valid = row_key c row is (row_there c.rows i row there) in
-    read (spelled row.0) valid.position ([], valid.bytes ∙ sym (append-nil (board_bytes (spelled row.0))))
+    read (board_of_bytes row.0) valid.position ([], valid.bytes ∙ sym (append-nil (board_bytes (board_of_bytes row.0))))
 
 -- and its bytes stand at the front of the key
-pub row_begins : (c : Content) (i : ℕ) (row : List ℕ × ℕ) (x : Board) → IsContent c → slice_get c.rows i ≡ Some row → x ≡ spelled row.0
+pub row_begins : (c : Content) (i : ℕ) (row : List ℕ × ℕ) (x : Board) → IsContent c → slice_get c.rows i ≡ Some row → x ≡ board_of_bytes row.0
     → BeginsWithBoard row.0 x
 row_begins c i row x is there same =
     let valid = row_key c row is (row_there c.rows i row there) in
-    subst (BeginsWithBoard row.0) (sym same) ([], valid.bytes ∙ sym (append-nil (board_bytes (spelled row.0))))
+    subst (BeginsWithBoard row.0) (sym same) ([], valid.bytes ∙ sym (append-nil (board_bytes (board_of_bytes row.0))))
 
 -- where the first records and the next hold, one more does
 pub records_more : (g : GameRules) (c : Content) (i : ℕ) (row : List ℕ × ℕ) → RecordsHold g c i → slice_get c.rows i ≡ Some row
@@ -83,7 +83,7 @@ module _ (g : GameRules) (c : Content) (is : IsContent c) (of : IsOfGame g c) wh
 
   -- the steps of a record, by the level
   steps_of : (by : Option ℕ) (e : Board × ℕ) → level c ≡ by → RecordsHold g c (length c.rows) → Contains (as_boards c.rows) e
-      → (row : List ℕ × ℕ) × (e ≡ (spelled row.0, row.1)) × StepsHold g c by row
+      → (row : List ℕ × ℕ) × (e ≡ (board_of_bytes row.0, row.1)) × StepsHold g c by row
   steps_of by e k records there =
       let r = row_listed c.rows e there in
       (r.0, r.2, subst (λ t. StepsHold g c t r.0) k (row_holds g c r.0 records r.1).steps)
@@ -102,7 +102,7 @@ module _ (g : GameRules) (c : Content) (is : IsContent c) (of : IsOfGame g c) wh
             let s = steps_of (Some n) e k proof.records there in
             (one_enough (low_of c.head.bound) g c.head.rule n (as_boards c.rows) e.0 e.0 e.1 (bounds_lower c.head.bound).1 pe pe (class-refl e.0)).1
             (subst (λ (p : Board × ℕ). p.1 + low_of c.head.bound p.0 < n
-            → StepsCovered (Covered (low_of c.head.bound) n (as_boards c.rows)) g c.head.rule p.0 p.1) (sym s.1) s.2 near);
+            → StepsCovered (IsCoveredBelow (low_of c.head.bound) n (as_boards c.rows)) g c.head.rule p.0 p.1) (sym s.1) s.2 near);
       })
 
   -- and without one, closed

@@ -2,7 +2,7 @@
 use Rattle.std.proofs.Common.{◌≡◌, ◌≢◌, ℕ, ◌+◌, ◌-◌, ◌<◌, ◌≤◌, min, nat_lt, nat_le, IsTrue, IfSome, Option, None, Some, List, [], ◌∷◌, ◌++◌, length, refl, sym, subst, inl, ⊎_elim, arith}
 use Rattle.std.proofs.lemmas.Bool.{cases_lt}
 use Rattle.std.proofs.lemmas.Bool.Decides.{nat_tests}
-use Rattle.fc_position.specs.Board.{Board, column, lifted, placed}
+use Rattle.fc_position.specs.Board.{Board, column, board_without, board_with}
 use Rattle.fc_position.specs.Position.{IsPosition}
 use Rattle.fc_cards.specs.declared.places.Place.{Place}
 use Rattle.fc_cards.specs.declared.places.Place.TheVariants.{Column, Cell, Home}
@@ -38,10 +38,10 @@ low_runs kind g b q (m ∷ ms) p (mid, step, rest) =
     omega arith
 
 -- where a card in a cell goes anywhere but home, no less is to be cleared
-cell_keeps : (b : Board) (i u : ℕ) (to : Place) → to ≢ Home → clearing_bound b ≤ clearing_bound (placed (lifted b (Cell i)) u to)
+cell_keeps : (b : Board) (i u : ℕ) (to : Place) → to ≢ Home → clearing_bound b ≤ clearing_bound (board_with (board_without b (Cell i)) u to)
 unfolding clearing_bound
 cell_keeps b i u (Column j) away =
-    let more = cost-fronts b.columns (placed (lifted b (Cell i)) u (Column j)).columns
+    let more = cost-fronts b.columns (board_with (board_without b (Cell i)) u (Column j)).columns
     (fronts-more b.columns b.columns j (column b j ++ u ∷ []) (fronts-same b.columns) (u ∷ [], refl)) in
     omega (arith, more)
 cell_keeps b i u (Cell j) away = omega arith
@@ -52,7 +52,7 @@ pub cell_after : (g : GameRules) (b y : Board) (m : Move) (i guide : ℕ) → Is
     → Step g b m y → guide ≤ low_of Clearing y
 cell_after g b y m i guide p is from away step =
     let under = guides_under Clearing b p in
-    let more = subst (λ f. clearing_bound b ≤ clearing_bound (placed (lifted b f) step.card m.to)) (sym from) (cell_keeps b i step.card m.to away) in
+    let more = subst (λ f. clearing_bound b ≤ clearing_bound (board_with (board_without b f) step.card m.to)) (sym from) (cell_keeps b i step.card m.to away) in
     let after = subst (λ z. clearing_bound b ≤ clearing_bound z) (sym step.after) more in
     omega (arith, is, under, after)
 

@@ -8,7 +8,7 @@ use Rattle.fc_position.specs.Position.{IsWon}
 use Rattle.fc_moves.specs.GameRules.{GameRules}
 use Rattle.fc_moves.specs.Run.{Run}
 use Rattle.fc_moves.proofs.StepLemmas.{run_once}
-use Rattle.fc_canonical.specs.Spelled.{spelled}
+use Rattle.fc_canonical.specs.Spelled.{board_of_bytes}
 use Rattle.fc_moves.proofs.ClassLemmas.{class-refl}
 use Rattle.fc_cert.specs.declared.claims.Claim.{Claim}
 use Rattle.fc_cert.specs.declared.claims.Claim.TheVariants as claim
@@ -57,11 +57,11 @@ below_proof g b c n is of k moves closed = record {
   records = λ i row lt there.
       let at = row_there c.rows i row there in
       let listed = board_listed c.rows row at in
-      let here : Board × ℕ = (spelled row.0, row.1) in
+      let here : Board × ℕ = (board_of_bytes row.0, row.1) in
       record {
         not_won = closed.not_won here listed;
         steps = subst (λ t. StepsHold g c t row) (sym k)
-            (closed.steps here (spelled row.0) listed (row_in g c row is of at).position (class-refl (spelled row.0)));
+            (closed.steps here (board_of_bytes row.0) listed (row_in g c row is of at).position (class-refl (board_of_bytes row.0)));
       };
 }
 
@@ -78,11 +78,11 @@ shows_proof g b c claim.CannotWin is of (k, closed) = record {
   records = λ i row lt there.
       let at = row_there c.rows i row there in
       let listed = board_listed c.rows row at in
-      let here : Board × ℕ = (spelled row.0, row.1) in
+      let here : Board × ℕ = (board_of_bytes row.0, row.1) in
       record {
         not_won = closed.not_won here listed;
         steps = subst (λ t. StepsHold g c t row) (sym (level_in c kind.CannotWin k))
-            (closed.steps here (spelled row.0) listed (row_in g c row is of at).position (class-refl (spelled row.0)));
+            (closed.steps here (board_of_bytes row.0) listed (row_in g c row is of at).position (class-refl (board_of_bytes row.0)));
       };
 }
 
@@ -220,7 +220,7 @@ module _ (g : GameRules) (b : Board) (bytes : List ℕ) where
       (record { before = after; row = other; there = at; bad = λ r. wrong r.steps }) in
       let also : slice_get c.rows i ≡ Some other =
       subst (λ n. slice_get c.rows n ≡ Some other) (sym one.0) (subst (λ e. slice_get e.rows j ≡ Some other) one.1 at) in
-      lost (subst (λ r. IsWon (spelled r.0)) (same_Some row other (sym there ∙ also)) won)
+      lost (subst (λ r. IsWon (board_of_bytes r.0)) (same_Some row other (sym there ∙ also)) won)
 
   same_stage : (x y : CheckFault) → stage x ≡ stage y → IsCheckFault g b bytes x → IsCheckFault g b bytes y → x ≢ Memory → y ≢ Memory → x ≡ y
   same_stage (Form f) (Form h) e p q one two = ap Form (form_fault_once bytes f h p q)

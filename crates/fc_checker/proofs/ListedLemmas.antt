@@ -9,23 +9,24 @@ use Rattle.fc_position.specs.Board.{Board}
 use Rattle.fc_position.specs.Position.{IsPosition}
 use Rattle.fc_moves.specs.Class.{SameClass}
 use Rattle.fc_canonical.specs.Key.{IsKeyOf}
-use Rattle.fc_canonical.specs.Spelled.{IsKeyFor, spelled}
+use Rattle.fc_canonical.specs.Spelled.{IsKeyFor, board_of_bytes}
 use Rattle.fc_moves.proofs.ClassLemmas.{class-refl}
 use Rattle.fc_canonical.proofs.KeyLemmas.{keys_tell}
-use Rattle.fc_tables.specs.Table.{ListsClass, Lists, as_boards}
+use Rattle.fc_tables.specs.Table.{Lists, as_boards}
 use Rattle.fc_answers.proofs.RisingLemmas.{keys_once}
 use Rattle.fc_cert.specs.Content.{Content, IsContent, IsRecord}
+use Rattle.fc_checker.specs.inner.Steps.{IsListedCost}
 
 -- a row of a table lists its board, and a listed board is of a row
-pub board_listed : (table : List (List ℕ × ℕ)) (row : List ℕ × ℕ) → Contains table row → Contains (as_boards table) (spelled row.0, row.1)
+pub board_listed : (table : List (List ℕ × ℕ)) (row : List ℕ × ℕ) → Contains table row → Contains (as_boards table) (board_of_bytes row.0, row.1)
 board_listed [] row (k, lt, e) = absurd (omega (arith, lt))
-board_listed (f ∷ table) row (zero, lt, e) = (0, omega arith, ap (λ h. (spelled h.0, h.1)) e)
+board_listed (f ∷ table) row (zero, lt, e) = (0, omega arith, ap (λ h. (board_of_bytes h.0, h.1)) e)
 board_listed (f ∷ table) row (suc k, lt, e) =
-    Contains-append_right ((spelled f.0, f.1) ∷ []) (as_boards table) (spelled row.0, row.1)
+    Contains-append_right ((board_of_bytes f.0, f.1) ∷ []) (as_boards table) (board_of_bytes row.0, row.1)
     (board_listed table row (k, omega (arith, lt), e))
 
 pub row_listed : (table : List (List ℕ × ℕ)) (e : Board × ℕ) → Contains (as_boards table) e
-    → (row : List ℕ × ℕ) × Contains table row × (e ≡ (spelled row.0, row.1))
+    → (row : List ℕ × ℕ) × Contains table row × (e ≡ (board_of_bytes row.0, row.1))
 row_listed [] e (k, lt, same) = absurd (omega (arith, lt))
 row_listed (f ∷ table) e (zero, lt, same) = (f, (0, omega arith, refl), sym same)
 row_listed (f ∷ table) e (suc k, lt, same) =
@@ -37,8 +38,8 @@ pub row_key : (c : Content) (row : List ℕ × ℕ) → IsContent c → Contains
 row_key c row is there = (All-contains (IsRecord c.head.cells c.head.kind) c.rows row is.rows there).key
 
 -- which is the key of the board that it spells
-own_key : (cells : ℕ) (key : List ℕ) → IsKeyFor cells key → IsKeyOf (spelled key) key
-own_key cells key k = record { canonical = spelled key; class = class-refl (spelled key); ordered = k.ordered; bytes = k.bytes }
+own_key : (cells : ℕ) (key : List ℕ) → IsKeyFor cells key → IsKeyOf (board_of_bytes key) key
+own_key cells key k = record { canonical = board_of_bytes key; class = class-refl (board_of_bytes key); ordered = k.ordered; bytes = k.bytes }
 
 -- no key stands in two rows
 cost_once : (c : Content) (key : List ℕ) (d e : ℕ) → IsContent c → Contains c.rows (key, d) → Contains c.rows (key, e) → d ≡ e
@@ -58,29 +59,28 @@ module _ (c : Content) (is : IsContent c) (x : Board) (position : IsPosition x) 
   class_row e there same =
       let r = row_listed c.rows e there in
       let valid = row_key c r.0 is r.1 in
-      let tell = keys_tell x (spelled r.0.0) key r.0.0 position valid.position of (own_key c.head.cells r.0.0 valid) in
+      let tell = keys_tell x (board_of_bytes r.0.0) key r.0.0 position valid.position of (own_key c.head.cells r.0.0 valid) in
       let one = tell.1 (subst (SameClass x) (ap (λ p. p.0) r.2) same) in
       subst (λ k. Contains c.rows (k, e.1)) (sym one) (subst (λ d. Contains c.rows (r.0.0, d)) (sym (ap (λ p. p.1) r.2)) r.1)
 
   -- and where the key is, the class is
-  row_class : (cost : ℕ) → Contains c.rows (key, cost) → Contains (as_boards c.rows) (spelled key, cost) × SameClass x (spelled key)
+  row_class : (cost : ℕ) → Contains c.rows (key, cost) → Contains (as_boards c.rows) (board_of_bytes key, cost) × SameClass x (board_of_bytes key)
   row_class cost there =
       let valid = row_key c (key, cost) is there in (
         board_listed c.rows (key, cost) there,
-        (keys_tell x (spelled key) key key position valid.position of (own_key c.head.cells key valid)).0 refl,
+        (keys_tell x (board_of_bytes key) key key position valid.position of (own_key c.head.cells key valid)).0 refl,
       )
 
   -- so the key is found exactly where the class is listed
   pub found : (o : Option ℕ) → MatchOption o ((cost : ℕ) → Contains c.rows (key, cost) → ⊥) (λ cost. Contains c.rows (key, cost))
-      → MatchOption o (ListsClass (as_boards c.rows) x → ⊥)
-      (λ cost. ListsClass (as_boards c.rows) x × ((d : ℕ) → Lists (as_boards c.rows) x d ↔ cost ≤ d))
+      → IsListedCost (as_boards c.rows) x o
   found None none = λ (e, there, same). none e.1 (class_row e there same)
   found (Some cost) there =
       let l = row_class cost there in (
-        ((spelled key, cost), l.0, l.1),
+        ((board_of_bytes key, cost), l.0, l.1),
         λ d. (
           λ (e, at, same, le). let one = cost_once c key cost e.1 is there (class_row e at same) in omega (arith, one, le),
-          λ le. ((spelled key, cost), l.0, l.1, le),
+          λ le. ((board_of_bytes key, cost), l.0, l.1, le),
         ),
       )
 

@@ -10,14 +10,14 @@ use Rattle.fc_moves.specs.Step.{Step}
 use Rattle.fc_moves.proofs.StepLemmas.{step_once}
 use Rattle.fc_moves.specs.Class.{SameClass}
 use Rattle.fc_canonical.specs.Distinct.{ListsClasses}
-use Rattle.fc_canonical.specs.Spelled.{spelled}
+use Rattle.fc_canonical.specs.Spelled.{board_of_bytes}
 use Rattle.fc_moves.proofs.ClassLemmas.{class-trans}
 use Rattle.fc_home.specs.Settles.{Settles, SettlesBy}
 use Rattle.fc_home.proofs.MateLemmas.{class_settle}
 use Rattle.fc_home.proofs.WayLemmas.{settles_once}
 use Rattle.fc_bound.specs.Kinds.{low_of}
 use Rattle.fc_bound.proofs.KindLemmas.{bounds_lower}
-use Rattle.fc_tables.specs.Table.{Covered, StepsCovered, StepsListed, as_boards}
+use Rattle.fc_tables.specs.Table.{IsCoveredBelow, StepsCovered, StepsListed, as_boards}
 use Rattle.fc_cert.specs.Content.{Content}
 use Rattle.fc_checker.specs.Check.{Holds, StartHolds, StepsHold, level}
 use Rattle.fc_checker.specs.inner.Steps.{SettledHolds, StepHolds}
@@ -79,31 +79,31 @@ module _ (g : GameRules) (c : Content) where
   )
 
   -- what is asked of the steps from a record's board holds where its cost and its bound reach the level
-  pub far_steps : (x : Board) (key : List ℕ) (cost n : ℕ) → level c ≡ Some n → n ≤ cost + low_of c.head.bound x → x ≡ spelled key
+  pub far_steps : (x : Board) (key : List ℕ) (cost n : ℕ) → level c ≡ Some n → n ≤ cost + low_of c.head.bound x → x ≡ board_of_bytes key
       → StepsHold g c (level c) (key, cost)
   far_steps x key cost n e far same =
       subst (λ s. StepsHold g c s (key, cost)) (sym e)
       (λ near. let reach = subst (λ b. n ≤ cost + low_of c.head.bound b) same far in absurd (omega (arith, reach, near)))
 
   -- and where each of its moves leads to what holds
-  pub held_steps : (x : Board) (key : List ℕ) (cost n : ℕ) → level c ≡ Some n → ((m : Move) → StepHolds g c x cost m) → x ≡ spelled key
+  pub held_steps : (x : Board) (key : List ℕ) (cost n : ℕ) → level c ≡ Some n → ((m : Move) → StepHolds g c x cost m) → x ≡ board_of_bytes key
       → StepsHold g c (level c) (key, cost)
   held_steps x key cost n e all same =
       subst (λ s. StepsHold g c s (key, cost)) (sym e)
-      (λ near. subst (λ b. StepsCovered (Covered (low_of c.head.bound) n (as_boards c.rows)) g c.head.rule b cost) same
+      (λ near. subst (λ b. StepsCovered (IsCoveredBelow (low_of c.head.bound) n (as_boards c.rows)) g c.head.rule b cost) same
       (λ m y z k step settles. subst (λ s. Holds c s z (cost + 1 + k)) e (all m y step z k settles)))
 
   -- and else not
-  pub near_steps : (x : Board) (key : List ℕ) (cost n : ℕ) → level c ≡ Some n → (n ≤ cost + low_of c.head.bound x → ⊥) → x ≡ spelled key
+  pub near_steps : (x : Board) (key : List ℕ) (cost n : ℕ) → level c ≡ Some n → (n ≤ cost + low_of c.head.bound x → ⊥) → x ≡ board_of_bytes key
       → StepsHold g c (level c) (key, cost) → (m : Move) → StepHolds g c x cost m
   near_steps x key cost n e near same holds m y step z k settles =
       let all = subst (λ s. StepsHold g c s (key, cost)) e holds in
       let low = subst (λ b. n ≤ cost + low_of c.head.bound b → ⊥) same near in
-      let covered = subst (λ b. StepsCovered (Covered (low_of c.head.bound) n (as_boards c.rows)) g c.head.rule b cost) (sym same) (all (omega (arith, low))) in
+      let covered = subst (λ b. StepsCovered (IsCoveredBelow (low_of c.head.bound) n (as_boards c.rows)) g c.head.rule b cost) (sym same) (all (omega (arith, low))) in
       subst (λ s. Holds c s z (cost + 1 + k)) (sym e) (covered m y z k step settles)
 
   pub listed_steps : (x : Board) (key : List ℕ) (cost : ℕ) (t : Bool) → level c ≡ None
-      → IsTrue t ↔ ((m : Move) → StepHolds g c x cost m) → x ≡ spelled key → IsTrue t ↔ StepsHold g c (level c) (key, cost)
+      → IsTrue t ↔ ((m : Move) → StepHolds g c x cost m) → x ≡ board_of_bytes key → IsTrue t ↔ StepsHold g c (level c) (key, cost)
   listed_steps x key cost t e test same = (
     λ true. subst (λ s. StepsHold g c s (key, cost)) (sym e)
         (subst (StepsListed g c.head.rule (as_boards c.rows)) same

@@ -6,10 +6,10 @@ use Rattle.fc_moves.specs.declared.steps.Move.{Move}
 use Rattle.fc_moves.specs.GameRules.{GameRules}
 use Rattle.fc_moves.specs.Run.{Run, Wins}
 use Rattle.fc_moves.specs.Step.{Allows}
-use Rattle.fc_canonical.specs.Spelled.{spelled}
+use Rattle.fc_canonical.specs.Spelled.{board_of_bytes}
 use Rattle.fc_home.specs.Settles.{Settles}
 use Rattle.fc_bound.specs.Kinds.{low_of}
-use Rattle.fc_tables.specs.Table.{Covered, ListsClass, StepsCovered, StepsListed, as_boards}
+use Rattle.fc_tables.specs.Table.{IsCoveredBelow, ListsClass, StepsCovered, StepsListed, as_boards}
 use Rattle.fc_cert.specs.declared.contents.Kind.{Kind}
 use Rattle.fc_cert.specs.declared.contents.Kind.TheVariants.{Shortest, CannotWin, Between}
 use Rattle.fc_cert.specs.Content.{Content, IsSpelled}
@@ -40,7 +40,7 @@ level c = level_of c.head.kind c.head.floor c.moves
 -- what is asked of a board that d moves lead to: that it is covered below the level, by the bound that is named, and without
 -- one that it is listed
 abbrev pub Holds : Content → Option ℕ → Board → ℕ → Type 0
-Holds c (Some n) x d = Covered (low_of c.head.bound) n (as_boards c.rows) x d
+Holds c (Some n) x d = IsCoveredBelow (low_of c.head.bound) n (as_boards c.rows) x d
 Holds c None x d = ListsClass (as_boards c.rows) x
 
 -- what is asked of the start: what it settles to holds at as many moves
@@ -50,13 +50,13 @@ StartHolds g b c = (q : Board) (k : ℕ) → Settles g c.head.rule b k q → Hol
 -- what is asked of the steps from the board of a record: where its cost and bound are below the level, that they are covered,
 -- and without one that they are listed
 abbrev pub StepsHold : GameRules → Content → Option ℕ → List ℕ × ℕ → Type 0
-StepsHold g c (Some n) row = row.1 + low_of c.head.bound (spelled row.0) < n
-    → StepsCovered (Covered (low_of c.head.bound) n (as_boards c.rows)) g c.head.rule (spelled row.0) row.1
-StepsHold g c None row = StepsListed g c.head.rule (as_boards c.rows) (spelled row.0)
+StepsHold g c (Some n) row = row.1 + low_of c.head.bound (board_of_bytes row.0) < n
+    → StepsCovered (IsCoveredBelow (low_of c.head.bound) n (as_boards c.rows)) g c.head.rule (board_of_bytes row.0) row.1
+StepsHold g c None row = StepsListed g c.head.rule (as_boards c.rows) (board_of_bytes row.0)
 
 -- what is asked of a record: its board isn't won, and its steps hold
 pub record RecordHolds (g : GameRules) (c : Content) (row : List ℕ × ℕ) : Type 0 where
-  pub not_won : IsWon (spelled row.0) → ⊥
+  pub not_won : IsWon (board_of_bytes row.0) → ⊥
   pub steps : StepsHold g c (level c) row
 
 -- the first so many records hold
@@ -95,7 +95,7 @@ IsCheckFault g b bytes NotHome = (c : Content) × HasContent g bytes c × (c.hea
     × ((x : Board) × Run g b c.moves x × (IsWon x → ⊥))
 IsCheckFault g b bytes StartOpen = (c : Content) × HasContent g bytes c × MovesHold g b c.head.kind c.moves × (StartHolds g b c → ⊥)
 IsCheckFault g b bytes (WonListed i) = (c : Content) × HasStart g b bytes c × RecordsHold g c i
-    × ((row : List ℕ × ℕ) × (slice_get c.rows i ≡ Some row) × IsWon (spelled row.0))
+    × ((row : List ℕ × ℕ) × (slice_get c.rows i ≡ Some row) × IsWon (board_of_bytes row.0))
 IsCheckFault g b bytes (Open i) = (c : Content) × HasStart g b bytes c × RecordsHold g c i
-    × ((row : List ℕ × ℕ) × (slice_get c.rows i ≡ Some row) × (IsWon (spelled row.0) → ⊥) × (StepsHold g c (level c) row → ⊥))
+    × ((row : List ℕ × ℕ) × (slice_get c.rows i ≡ Some row) × (IsWon (board_of_bytes row.0) → ⊥) × (StepsHold g c (level c) row → ⊥))
 IsCheckFault g b bytes Memory = (c : Content) × IsSpelled bytes c × (0 < length c.rows)

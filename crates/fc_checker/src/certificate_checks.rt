@@ -6,7 +6,7 @@ ghost use Rattle.fc_position.specs.Position.{Fits, IsPosition};
 ghost use Rattle.fc_moves.specs.GameRules.{GameRules};
 ghost use Rattle.fc_moves.specs.Run.{Wins};
 ghost use Rattle.fc_canonical.specs.Key.{BeginsWithBoard};
-ghost use Rattle.fc_canonical.specs.Spelled.{spelled};
+ghost use Rattle.fc_canonical.specs.Spelled.{board_of_bytes};
 ghost use Rattle.fc_cert.specs.Claim.{IsCertificate, IsTrueOf};
 ghost use Rattle.fc_cert.specs.Content.{IsContent};
 ghost use Rattle.fc_cert.specs.Reading.{IsReadFault};
@@ -189,7 +189,7 @@ fn record_steps_hold<G: Game>(
     requires content { IsContent certificate.now }
     requires whole { IsPosition position.old }
     requires key { BeginsWithBoard key.now position.old }
-    ensures value { position.old ≡ spelled key.now
+    ensures value { position.old ≡ board_of_bytes key.now
         → (IsTrue result ↔ StepsHold (G.game game.now) certificate.now (level_of certificate.now) (key.now, cost)) }
 {
     match level(certificate) {
@@ -218,7 +218,7 @@ fn steps_hold_below<G: Game>(
     requires content { IsContent certificate.now }
     requires whole { IsPosition position.old }
     requires key { BeginsWithBoard key.now position.old }
-    ensures value { position.old ≡ spelled key.now
+    ensures value { position.old ≡ board_of_bytes key.now
         → (IsTrue result ↔ StepsHold (G.game game.now) certificate.now (level_of certificate.now) (key.now, cost)) }
 {
     let kind = certificate.head().bound;

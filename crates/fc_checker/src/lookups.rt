@@ -1,7 +1,7 @@
 //! What is looked up of the columns of a record's position, once for all its steps.
 
 ghost use Rattle.std.specs.Prelude.{◌≡◌, ◌≤◌};
-ghost use Rattle.fc_position.specs.Board.{lifted};
+ghost use Rattle.fc_position.specs.Board.{board_without};
 ghost use Rattle.fc_position.specs.Position.{IsPosition};
 ghost use Rattle.fc_bound.specs.Kinds.{guide_of};
 ghost use Rattle.fc_checker.specs.inner.Lookups.{IsLookupOf};
@@ -33,7 +33,7 @@ impl Lookup {
     #[inline]
     pub(crate) fn lift(&mut self, position: &Position, from: Place)
         requires lookup { IsLookupOf position.now self.old }
-        ensures lookup { IsLookupOf (lifted position.now from) self.new }
+        ensures lookup { IsLookupOf (board_without position.now from) self.new }
     {
         match self {
             Lookup::Nothing => {}
@@ -44,7 +44,7 @@ impl Lookup {
     // Puts the playable card of a place back in.
     #[inline]
     pub(crate) fn put(&mut self, position: &Position, to: Place)
-        requires lookup { IsLookupOf (lifted position.now to) self.old }
+        requires lookup { IsLookupOf (board_without position.now to) self.old }
         ensures lookup { IsLookupOf position.now self.new }
     {
         match self {

@@ -1,6 +1,6 @@
 //! What is asked of a position that moves lead to, and of where its own steps lead.
 
-ghost use Rattle.std.specs.Prelude.{◌≡◌, ◌≢◌, ◌+◌, ◌<◌, ◌≤◌, ◌^◌, ◌↔◌, ℕ, length, IsTrue, IfSome, MatchOption};
+ghost use Rattle.std.specs.Prelude.{◌≡◌, ◌≢◌, ◌+◌, ◌<◌, ◌≤◌, ◌^◌, ◌↔◌, length, IsTrue, IfSome};
 ghost use Rattle.fc_cards.specs.declared.places.Place.TheVariants.{Home};
 ghost use Rattle.fc_position.specs.Board.{Board};
 ghost use Rattle.fc_position.specs.Position.{IsPosition};
@@ -8,11 +8,11 @@ ghost use Rattle.fc_moves.specs.GameRules.{GameRules};
 ghost use Rattle.fc_moves.specs.Step.{Allows, Step};
 ghost use Rattle.fc_canonical.specs.Key.{BeginsWithBoard};
 ghost use Rattle.fc_bound.specs.Kinds.{guide_of, low_of};
-ghost use Rattle.fc_tables.specs.Table.{Covered, Lists, ListsClass, as_boards};
+ghost use Rattle.fc_tables.specs.Table.{IsCoveredBelow, Lists, ListsClass, as_boards};
 ghost use Rattle.fc_cert.specs.Content.{IsContent};
 ghost use Rattle.fc_checker.specs.Check.{Holds, level as level_of};
 ghost use Rattle.fc_checker.specs.inner.Lookups.{IsLookupOf};
-ghost use Rattle.fc_checker.specs.inner.Steps.{IsKnownNear, SettledHolds, StepHolds};
+ghost use Rattle.fc_checker.specs.inner.Steps.{IsKnownNear, IsListedCost, SettledHolds, StepHolds};
 
 use crate::lookups::Lookup;
 use arrayvec::ArrayVec;
@@ -93,9 +93,7 @@ fn is_seen_far(
 // The cost at which the position's class is listed, `None` where it isn't.
 fn listed_cost(certificate: &Certificate, position: &Position) -> Option<u32>
     requires content { IsContent certificate.now }
-    ensures value { MatchOption result (ListsClass (as_boards certificate.now.rows) position.now → ⊥)
-        (λ cost. ListsClass (as_boards certificate.now.rows) position.now
-        × ((d : ℕ) → Lists (as_boards certificate.now.rows) position.now d ↔ cost ≤ d)) }
+    ensures value { IsListedCost (as_boards certificate.now.rows) position.now result }
 {
     certificate.find(key(position).as_slice())
 }
@@ -131,7 +129,7 @@ fn is_covered(
     requires content { IsContent certificate.now }
     requires lookup { IsLookupOf position.now lookup.now }
     requires few { moves < 2 ^ 33 }
-    ensures value { IsTrue result ↔ Covered (low_of certificate.now.head.bound) level (as_boards certificate.now.rows) position.now moves }
+    ensures value { IsTrue result ↔ IsCoveredBelow (low_of certificate.now.head.bound) level (as_boards certificate.now.rows) position.now moves }
 {
     (looks_far && is_seen_far(certificate, level, position, lookup, moves))
         || is_listed_within(certificate, position, moves)

@@ -10,7 +10,7 @@ use Rattle.fc_moves.proofs.StepLemmas.{step_keeps}
 use Rattle.fc_moves.specs.Class.{SameClass}
 use Rattle.fc_moves.proofs.ClassLemmas.{class-refl, class-sym, class-trans}
 use Rattle.fc_canonical.specs.Key.{IsKeyOf}
-use Rattle.fc_canonical.specs.Spelled.{spelled}
+use Rattle.fc_canonical.specs.Spelled.{board_of_bytes}
 use Rattle.fc_canonical.proofs.KeyLemmas.{keys_tell, canonical_once}
 use Rattle.fc_canonical.proofs.SortLemmas.{has_key}
 use Rattle.fc_canonical.proofs.SpelledLemmas.{key_spells}
@@ -39,7 +39,7 @@ keys_name g p pp = record {
   valid = λ x k. record {
     position = k.position;
     ordered = k.ordered;
-    own = record { canonical = spelled x; class = class-refl (spelled x); ordered = k.ordered; bytes = k.bytes };
+    own = record { canonical = board_of_bytes x; class = class-refl (board_of_bytes x); ordered = k.ordered; bytes = k.bytes };
   };
   alike = key_alike;
   tells = keys_tell;
@@ -89,7 +89,7 @@ keys_spell g s code key ps valid k =
     let b = board_of_code s code in
     let is = key_spells g b key valid.position k in
     let ordered = (is_spelled s b code ps valid.position.position valid.coded).ordered in
-    (is.0, sym (canonical_once b (spelled key) valid.position.position is.1 ordered is.0.ordered))
+    (is.0, sym (canonical_once b (board_of_bytes key) valid.position.position is.1 ordered is.0.ordered))
 
 -- what a list of moves leads to has a name
 named_run : (naming : Naming) (g : GameRules) (p b c : Board) (ms : List Move) → IsNaming naming g p → IsPositionOf g b

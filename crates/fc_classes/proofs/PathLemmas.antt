@@ -5,7 +5,7 @@ use Rattle.std.proofs.lemmas.List.{length-append}
 use Rattle.fc_cards.specs.Card.{rank, suit}
 use Rattle.fc_cards.specs.declared.places.Place.{Place}
 use Rattle.fc_cards.specs.declared.places.Place.TheVariants.{Column, Cell, Home}
-use Rattle.fc_position.specs.Board.{Board, lifted, placed}
+use Rattle.fc_position.specs.Board.{Board, board_without, board_with}
 use Rattle.fc_position.specs.Position.{IsPosition, IsWon}
 use Rattle.fc_position.proofs.BoardLemmas.{homes-lifted}
 use Rattle.fc_moves.specs.declared.steps.Move.{Move}
@@ -19,7 +19,7 @@ use Rattle.fc_bound.specs.declared.kinds.BoundKind.{BoundKind}
 use Rattle.fc_home.specs.Settles.{Settles, SettlesBy, sent_home}
 use Rattle.fc_home.proofs.MateLemmas.{class_settle}
 use Rattle.fc_home.proofs.SettleLemmas.{settles_keep, settles_run, settled_stays, sent_position, total, total-most, total-next, turn_total}
-use Rattle.fc_best_first.specs.Graph.{Reached, ReachedBy}
+use Rattle.fc_best_first.specs.Graph.{IsReached, ReachedBy}
 use Rattle.fc_classes.specs.Namings.{Naming, IsNaming}
 use Rattle.fc_classes.specs.Classes.{SettlesTo, LeadsTo, away, classes}
 use Rattle.fc_classes.specs.Laws.{ReachedNamesAreOfPositions, ReachedNamesAreRunTo}
@@ -92,7 +92,7 @@ reached_run_to naming kind g rule p x cost good pp h = reached_run h.0 naming ki
 
 -- so a list of as many moves as a won name is reached at wins
 pub reached_wins : (naming : Naming) (kind : BoundKind) (g : GameRules) (rule : ℕ) (p : Board) (x : List ℕ) (cost : ℕ)
-    → IsNaming naming g p → IsPositionOf g p → Reached (classes naming kind g rule p) x cost → IsWon (naming.spelled x)
+    → IsNaming naming g p → IsPositionOf g p → IsReached (classes naming kind g rule p) x cost → IsWon (naming.spelled x)
     → WinsIn g p cost
 reached_wins naming kind g rule p x cost good pp h won =
     let run = reached_run_to naming kind g rule p x cost good pp h in
@@ -120,7 +120,7 @@ settling_away naming g rule p b count x good pb (q, (ms, long, by), name) =
 
 -- no step takes a card from home
 placed_homes : (g : GameRules) (b : Board) (from : Place) (u : ℕ) (to : Place) → IsPosition b → Takes g b u to
-    → total b.homes ≤ total (placed (lifted b from) u to).homes
+    → total b.homes ≤ total (board_with (board_without b from) u to).homes
 placed_homes g b from u (Column j) p takes = let same = ap total (homes-lifted b from) in omega (arith, same)
 placed_homes g b from u (Cell j) p takes = let same = ap total (homes-lifted b from) in omega (arith, same)
 placed_homes g b from u Home p takes =

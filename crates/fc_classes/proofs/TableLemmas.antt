@@ -46,7 +46,7 @@ name_listed naming (f ∷ table) e (suc k, lt, same) =
 -- what the table of names covers by a name of the position, the table of boards covers
 covers_board : (naming : Naming) (kind : BoundKind) (g : GameRules) (rule : ℕ) (p : Board) (n : ℕ) (table : List (List ℕ × ℕ))
     (q : Board) (y : List ℕ) (cost : ℕ) → IsLowerBound (low_of kind) → SameClass q (naming.spelled y)
-    → Covers (classes naming kind g rule p) n table y cost → boards.Covered (low_of kind) n (boards_by naming table) q cost
+    → Covers (classes naming kind g rule p) n table y cost → boards.IsCoveredBelow (low_of kind) n (boards_by naming table) q cost
 covers_board naming kind g rule p n table q y cost lower same covers =
     ⊎_elim (λ far. let equal = lower.alike q (naming.spelled y) same in inl (omega (arith, far, equal)))
     (λ (d, listed, le). inr ((naming.spelled y, d), board_listed naming table y d listed, same, le)) covers
@@ -54,7 +54,7 @@ covers_board naming kind g rule p n table q y cost lower same covers =
 -- so does what starts
 starts_board : (naming : Naming) (kind : BoundKind) (g : GameRules) (rule : ℕ) (p : Board) (n : ℕ) (table : List (List ℕ × ℕ))
     → IsNaming naming g p → IsLowerBound (low_of kind) → IsPositionOf g p → IsClosedInside (classes naming kind g rule p) n table
-    → (q : Board) (k : ℕ) → Settles g rule p k q → boards.Covered (low_of kind) n (boards_by naming table) q k
+    → (q : Board) (k : ℕ) → Settles g rule p k q → boards.IsCoveredBelow (low_of kind) n (boards_by naming table) q k
 starts_board naming kind g rule p n table good lower pp closed q k settles =
     let name = named_settled naming g rule p p q k good pp good.start settles in
     let same = (good.spells q name.0 (settles_keep g rule p q k pp settles) name.1).1 in
@@ -64,7 +64,7 @@ starts_board naming kind g rule p n table good lower pp closed q k settles =
 steps_board : (naming : Naming) (kind : BoundKind) (g : GameRules) (rule : ℕ) (p : Board) (n : ℕ) (table : List (List ℕ × ℕ))
     → IsNaming naming g p → IsLowerBound (low_of kind) → IsPositionOf g p → IsClosedInside (classes naming kind g rule p) n table
     → (x : List ℕ) (d : ℕ) → Contains table (x, d) → d + low_of kind (naming.spelled x) < n
-    → boards.ClassesCovered (boards.Covered (low_of kind) n (boards_by naming table)) g rule (naming.spelled x) d
+    → boards.ClassesCovered (boards.IsCoveredBelow (low_of kind) n (boards_by naming table)) g rule (naming.spelled x) d
 steps_board naming kind g rule p n table good lower pp closed x d listed inside m y step =
     let at = naming.spelled x in
     let valid = (reached_of_positions naming kind g rule p x d good pp (closed.reached x d listed)).0 in
@@ -78,7 +78,7 @@ steps_board naming kind g rule p n table good lower pp closed x d listed inside 
     let covers = closed.edges x d (1 + k) name.0 listed inside (valid, (m, y, k, step, (z, way.2, name.1), refl)) in
     let cost : d + (1 + k) ≡ d + 1 + k = omega arith in
     let covered = covers_board naming kind g rule p n table z name.0 (d + (1 + k)) lower same covers in
-    (m, y, z, k, step, class-refl y, way.2, subst (boards.Covered (low_of kind) n (boards_by naming table) z) cost covered)
+    (m, y, z, k, step, class-refl y, way.2, subst (boards.IsCoveredBelow (low_of kind) n (boards_by naming table) z) cost covered)
 
 -- of the listed boards
 pub closed_board : (naming : Naming) (kind : BoundKind) (g : GameRules) (rule : ℕ) (p : Board) (n : ℕ) (table : List (List ℕ × ℕ))
@@ -103,7 +103,7 @@ closed_board naming kind g rule p n table good lower pp closed = record {
       let all = (one_enough (low_of kind) g rule n (boards_by naming table) at x name.1 lower (good.valid name.0 valid).position px
       (class-sym x at mates)).0
       (steps_board naming kind g rule p n table good lower pp closed name.0 name.1 name.2 (omega (arith, inside, cost, equal))) in
-      subst (boards.StepsCovered (boards.Covered (low_of kind) n (boards_by naming table)) g rule x) (sym cost) all;
+      subst (boards.StepsCovered (boards.IsCoveredBelow (low_of kind) n (boards_by naming table)) g rule x) (sym cost) all;
 }
 
 -- so the classes of a game's positions are a lawful question

@@ -8,7 +8,7 @@ use Rattle.fc_moves.specs.GameRules.{GameRules, IsPositionOf}
 use Rattle.fc_moves.specs.Step.{Step}
 use Rattle.fc_canonical.specs.Key.{IsKeyOf}
 use Rattle.fc_canonical.specs.Order.{IsCanonical}
-use Rattle.fc_canonical.specs.Spelled.{IsKeyIn, spelled}
+use Rattle.fc_canonical.specs.Spelled.{IsKeyIn, board_of_bytes}
 use Rattle.fc_codes.specs.State.{IsCodeOf}
 use Rattle.fc_codes.specs.Spelled.{board_of_code}
 
@@ -25,7 +25,7 @@ pub record IsCodeIn (s : Board) (g : GameRules) (code : List ℕ) : Type 0 where
 
 -- classes named by their keys
 abbrev pub by_keys : Naming
-by_keys = record { names = IsKeyOf; spelled = spelled; valid = IsKeyIn }
+by_keys = record { names = IsKeyOf; spelled = board_of_bytes; valid = IsKeyIn }
 
 -- classes named by their codes, as seen from the position at the start
 abbrev pub by_codes : Board → Naming

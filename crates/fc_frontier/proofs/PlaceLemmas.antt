@@ -5,10 +5,10 @@ use Rattle.std.specs.List.Sorted.{IsPermutation}
 use Rattle.std.proofs.lemmas.List.{append-nil, drop-map, get_or-map, length-map, map-append, take-map}
 use Rattle.std.proofs.lemmas.List.Elements.{All-get_or, All-head, All-map, All-tail, All-weaker}
 use Rattle.std.proofs.lemmas.List.Sorted.{IsPermutation-map}
-use Rattle.fc_frontier.specs.Place.{TakesFirst, pair_at, pairs_at, place_of}
-use Rattle.fc_frontier.specs.Queue.{Adds, IsLeast, in_order, inserted}
+use Rattle.fc_frontier.specs.Place.{PopsFirst, pair_at, pairs_at, place_of}
+use Rattle.fc_frontier.specs.Queue.{Adds, IsLeast, in_order, with_pair}
 use Rattle.fc_frontier.specs.Tie.{Entry, pair_of, pairs_of}
-use Rattle.fc_frontier.specs.inner.Queue.{IsPlaceOfNext}
+use Rattle.fc_frontier.specs.inner.Queue.{IsPlaceOfLeast}
 use Rattle.fc_frontier.specs.inner.Tie.{placed_of}
 use Rattle.fc_frontier.proofs.QueueLemmas.{in_order-least, in_order-permuted, in_order-remove, inserted-adds_to}
 use Rattle.fc_frontier.proofs.WalkLemmas.{both_walked}
@@ -40,14 +40,14 @@ pair_at-place f tie node small =
     ap (λ n. (n, node)) same
 
 -- a node that is put in is one pair more
-pub put-adds : (f tie node : ℕ) (old new : List (ℕ × ℕ)) → tie < 256 → new ≡ inserted (place_of f tie, node) old
+pub put-adds : (f tie node : ℕ) (old new : List (ℕ × ℕ)) → tie < 256 → new ≡ with_pair (place_of f tie, node) old
     → Adds (pairs_at 256 old) (pairs_at 256 new) (f, node)
 put-adds f tie node old new small is =
     subst (λ (p : ℕ × ℕ). Adds (pairs_at 256 old) (pairs_at 256 new) p) (pair_at-place f tie node small)
     (IsPermutation-map (pair_at 256) ((place_of f tie, node) ∷ old) new (inserted-adds_to (place_of f tie, node) old new is))
 
 -- what holds of the nodes holds of those that are left
-pub first-all : (P : ℕ × ℕ → Type 0) (r : Option (ℕ × ℕ)) (old new : List (ℕ × ℕ)) → IfSome r (λ pair. TakesFirst pair old new)
+pub first-all : (P : ℕ × ℕ → Type 0) (r : Option (ℕ × ℕ)) (old new : List (ℕ × ℕ)) → IfSome r (λ pair. PopsFirst pair old new)
     → IfNone r (new ≡ old) → All P old → All P new
 first-all P None old new takes same all = subst (All P) (sym same) all
 first-all P (Some pair) old new takes same all = All-tail P takes.placed new (subst (All P) takes.order all)
@@ -63,7 +63,7 @@ pub next-placed : (entries : List Entry) (place : ℕ) → place < length entrie
     → ((k : ℕ) (d : Entry) → k < length entries → (placed_of (slice_index_or entries place d)).0 ≤ (placed_of (slice_index_or entries k d)).0)
     → ((k : ℕ) (d : Entry) → place < k → k < length entries
     → (placed_of (slice_index_or entries place d)).0 < (placed_of (slice_index_or entries k d)).0)
-    → IsPlaceOfNext (map placed_of entries) place
+    → IsPlaceOfLeast (map placed_of entries) place
 next-placed entries place within least last = record {
   within = omega (arith, size);
   least = λ k d below. let inside : k < length entries = omega (arith, size) in
@@ -97,18 +97,18 @@ pair_at-placed : (entry : Entry) → entry.tie < 256 → pair_at 256 (placed_of 
 pair_at-placed entry small = pair_at-place entry.f entry.tie entry.node small
 
 -- an entry that was taken was the first
-within : (entries : List Entry) (place : ℕ) → IsPlaceOfNext (map placed_of entries) place → place < length entries
+within : (entries : List Entry) (place : ℕ) → IsPlaceOfLeast (map placed_of entries) place → place < length entries
 within entries place next = omega (arith, next.within, length-map entries placed_of)
 
 tie-small : (entries : List Entry) (place : ℕ) (entry : Entry) → All (λ entry. entry.tie < 256) entries
-    → IsPlaceOfNext (map placed_of entries) place → entry ≡ slice_index_or entries place entry → entry.tie < 256
+    → IsPlaceOfLeast (map placed_of entries) place → entry ≡ slice_index_or entries place entry → entry.tie < 256
 tie-small entries place entry small next is = subst (λ (e : Entry). e.tie < 256) (sym is)
     (All-get_or (λ entry. entry.tie < 256) entries place entry (within entries place next) small)
 
 pub next-taken : (entries left : List Entry) (place : ℕ) (entry : Entry) (pair : ℕ × ℕ) (queue : List (ℕ × ℕ))
-    → All (λ entry. entry.tie < 256) entries → IsPlaceOfNext (map placed_of entries) place
+    → All (λ entry. entry.tie < 256) entries → IsPlaceOfLeast (map placed_of entries) place
     → entry ≡ slice_index_or entries place entry → pair ≡ pair_of entry → left ≡ remove entries place
-    → in_order (map placed_of entries) ≡ queue → TakesFirst pair queue (in_order (map placed_of left))
+    → in_order (map placed_of entries) ≡ queue → PopsFirst pair queue (in_order (map placed_of left))
 next-taken entries left place entry pair queue small next is of rest view = record {
   placed = placed_of entry;
   is = of ∙ sym (pair_at-placed entry (tie-small entries place entry small next is));
@@ -118,7 +118,7 @@ next-taken entries left place entry pair queue small next is of rest view = reco
 }
 
 pub next-least : (entries : List Entry) (place : ℕ) (entry : Entry) (pair : ℕ × ℕ) (queue : List (ℕ × ℕ))
-    → All (λ entry. entry.tie < 256) entries → IsPlaceOfNext (map placed_of entries) place
+    → All (λ entry. entry.tie < 256) entries → IsPlaceOfLeast (map placed_of entries) place
     → entry ≡ slice_index_or entries place entry → pair ≡ pair_of entry
     → in_order (map placed_of entries) ≡ queue → IsLeast pair (pairs_at 256 queue)
 next-least entries place entry pair queue small next is of view =

@@ -8,29 +8,29 @@ use Rattle.std.proofs.lemmas.List.{append-nil, get_or_read, take-append-drop, dr
 use Rattle.std.proofs.lemmas.List.Sums.{fold_push, fold-append, sum_by-cons}
 use Rattle.std.proofs.lemmas.List.Elements.{All-cons, All-head, All-tail, All-append, All-weaker}
 use Rattle.std.proofs.lemmas.List.Sorted.{IsPermutation-refl, IsPermutation-sym, IsPermutation-trans, IsPermutation-cons, IsPermutation-middle, IsPermutation-append_left, length_permutation, All-permutation, sum_by-IsPermutation}
-use Rattle.fc_frontier.specs.Queue.{Adds, IsLeast, inserted, in_order}
-use Rattle.fc_frontier.specs.inner.Queue.{IsPlaceOfNext}
+use Rattle.fc_frontier.specs.Queue.{Adds, IsLeast, with_pair, in_order}
+use Rattle.fc_frontier.specs.inner.Queue.{IsPlaceOfLeast}
 use Rattle.fc_frontier.specs.Laws.{AddsCountOnce, times}
 
 -- a pair that has no greater f than the first goes before it, and else after it
-pub inserted-before : (p q : ℕ × ℕ) (qs : List (ℕ × ℕ)) → p.0 ≤ q.0 → inserted p (q ∷ qs) ≡ p ∷ q ∷ qs
+pub inserted-before : (p q : ℕ × ℕ) (qs : List (ℕ × ℕ)) → p.0 ≤ q.0 → with_pair p (q ∷ qs) ≡ p ∷ q ∷ qs
 inserted-before p q qs h =
     let test : leb p.0 q.0 ≡ true = grind (arith, nat_tests) in
     rw test refl
 
-pub inserted-after : (p q : ℕ × ℕ) (qs : List (ℕ × ℕ)) → q.0 < p.0 → inserted p (q ∷ qs) ≡ q ∷ inserted p qs
+pub inserted-after : (p q : ℕ × ℕ) (qs : List (ℕ × ℕ)) → q.0 < p.0 → with_pair p (q ∷ qs) ≡ q ∷ with_pair p qs
 inserted-after p q qs h =
     let test : leb p.0 q.0 ≡ false = grind (arith, nat_tests) in
     rw test refl
 
 -- a pair of least f goes first
-pub inserted-least : (p : ℕ × ℕ) (qs : List (ℕ × ℕ)) → IsLeast p qs → inserted p qs ≡ p ∷ qs
+pub inserted-least : (p : ℕ × ℕ) (qs : List (ℕ × ℕ)) → IsLeast p qs → with_pair p qs ≡ p ∷ qs
 inserted-least p [] least = refl
 inserted-least p (q ∷ qs) least = inserted-before p q qs (All-head (λ o. p.0 ≤ o.0) q qs least)
 
 -- pairs of lesser f stay in front
 pub inserted-behind : (p : ℕ × ℕ) (xs ys : List (ℕ × ℕ)) → All (λ q. q.0 < p.0) xs
-    → inserted p (xs ++ ys) ≡ xs ++ inserted p ys
+    → with_pair p (xs ++ ys) ≡ xs ++ with_pair p ys
 inserted-behind p [] ys less = refl
 inserted-behind p (x ∷ xs) ys less =
     inserted-after p x (xs ++ ys) (All-head (λ q. q.0 < p.0) x xs less)
@@ -38,7 +38,7 @@ inserted-behind p (x ∷ xs) ys less =
 
 -- pairs of no lesser f stay behind
 pub inserted-in_front : (p : ℕ × ℕ) (xs ys : List (ℕ × ℕ)) → IsLeast p ys
-    → inserted p (xs ++ ys) ≡ inserted p xs ++ ys
+    → with_pair p (xs ++ ys) ≡ with_pair p xs ++ ys
 inserted-in_front p [] ys least = inserted-least p ys least
 inserted-in_front p (x ∷ xs) ys least =
     ⊎_elim
@@ -48,31 +48,31 @@ inserted-in_front p (x ∷ xs) ys least =
     (cases_lt x.0 p.0)
 
 -- a pair that is put in is one pair more
-pub inserted-adds : (p : ℕ × ℕ) (qs : List (ℕ × ℕ)) → Adds qs (inserted p qs) p
+pub inserted-adds : (p : ℕ × ℕ) (qs : List (ℕ × ℕ)) → Adds qs (with_pair p qs) p
 inserted-adds p [] = IsPermutation-refl (p ∷ [])
 inserted-adds p (q ∷ qs) =
     ⊎_elim
     (λ after. subst (IsPermutation (p ∷ q ∷ qs)) (sym (inserted-after p q qs after))
-    (IsPermutation-trans (p ∷ q ∷ qs) (q ∷ p ∷ qs) (q ∷ inserted p qs)
+    (IsPermutation-trans (p ∷ q ∷ qs) (q ∷ p ∷ qs) (q ∷ with_pair p qs)
     (IsPermutation-sym (q ∷ p ∷ qs) (p ∷ q ∷ qs) (IsPermutation-middle (q ∷ []) p qs))
-    (IsPermutation-cons q (p ∷ qs) (inserted p qs) (inserted-adds p qs))))
+    (IsPermutation-cons q (p ∷ qs) (with_pair p qs) (inserted-adds p qs))))
     (λ before. subst (IsPermutation (p ∷ q ∷ qs)) (sym (inserted-before p q qs before)) (IsPermutation-refl (p ∷ q ∷ qs)))
     (cases_lt q.0 p.0)
 
-pub inserted-adds_to : (p : ℕ × ℕ) (old new : List (ℕ × ℕ)) → new ≡ inserted p old → Adds old new p
+pub inserted-adds_to : (p : ℕ × ℕ) (old new : List (ℕ × ℕ)) → new ≡ with_pair p old → Adds old new p
 inserted-adds_to p old new e = subst (λ qs. Adds old qs p) (sym e) (inserted-adds p old)
 
 -- the pairs that were pushed onto a queue stand in it with those that were there
 pushed-permuted : (queue pushed : List (ℕ × ℕ))
-    → IsPermutation (queue ++ pushed) (fold (λ queue pair. inserted pair queue) queue pushed)
+    → IsPermutation (queue ++ pushed) (fold (λ queue pair. with_pair pair queue) queue pushed)
 pushed-permuted queue [] = subst (IsPermutation (queue ++ [])) (grind (arith, append-nil {A = ℕ × ℕ})) (IsPermutation-refl (queue ++ []))
 pushed-permuted queue (p ∷ ps) =
-    IsPermutation-trans (queue ++ p ∷ ps) (p ∷ (queue ++ ps)) (fold (λ queue pair. inserted pair queue) (inserted p queue) ps)
+    IsPermutation-trans (queue ++ p ∷ ps) (p ∷ (queue ++ ps)) (fold (λ queue pair. with_pair pair queue) (with_pair p queue) ps)
     (IsPermutation-middle queue p ps)
-    (IsPermutation-trans (p ∷ (queue ++ ps)) (inserted p queue ++ ps)
-    (fold (λ queue pair. inserted pair queue) (inserted p queue) ps)
-    (IsPermutation-append_left ps (p ∷ queue) (inserted p queue) (inserted-adds p queue))
-    (pushed-permuted (inserted p queue) ps))
+    (IsPermutation-trans (p ∷ (queue ++ ps)) (with_pair p queue ++ ps)
+    (fold (λ queue pair. with_pair pair queue) (with_pair p queue) ps)
+    (IsPermutation-append_left ps (p ∷ queue) (with_pair p queue) (inserted-adds p queue))
+    (pushed-permuted (with_pair p queue) ps))
 
 pub in_order-permuted : (pushed : List (ℕ × ℕ)) → IsPermutation pushed (in_order pushed)
 in_order-permuted pushed = pushed-permuted [] pushed
@@ -81,30 +81,30 @@ pub length-in_order : (pushed : List (ℕ × ℕ)) → length (in_order pushed) 
 length-in_order pushed = length_permutation pushed (in_order pushed) (in_order-permuted pushed)
 
 -- one pair pushed
-pub in_order-push : (p : ℕ × ℕ) (pushed : List (ℕ × ℕ)) → in_order (pushed ++ p ∷ []) ≡ inserted p (in_order pushed)
-in_order-push p pushed = fold_push (λ queue pair. inserted pair queue) [] pushed p
+pub in_order-push : (p : ℕ × ℕ) (pushed : List (ℕ × ℕ)) → in_order (pushed ++ p ∷ []) ≡ with_pair p (in_order pushed)
+in_order-push p pushed = fold_push (λ queue pair. with_pair pair queue) [] pushed p
 
 -- pairs of greater f go behind the first
 pushed-behind : (p : ℕ × ℕ) (queue ys : List (ℕ × ℕ)) → All (λ q. p.0 < q.0) ys
-    → fold (λ queue pair. inserted pair queue) (p ∷ queue) ys ≡ p ∷ fold (λ queue pair. inserted pair queue) queue ys
+    → fold (λ queue pair. with_pair pair queue) (p ∷ queue) ys ≡ p ∷ fold (λ queue pair. with_pair pair queue) queue ys
 pushed-behind p queue [] greater = refl
 pushed-behind p queue (y ∷ ys) greater =
-    ap (λ q. fold (λ queue pair. inserted pair queue) q ys) (inserted-after y p queue (All-head (λ q. p.0 < q.0) y ys greater))
-    ∙ pushed-behind p (inserted y queue) ys (All-tail (λ q. p.0 < q.0) y ys greater)
+    ap (λ q. fold (λ queue pair. with_pair pair queue) q ys) (inserted-after y p queue (All-head (λ q. p.0 < q.0) y ys greater))
+    ∙ pushed-behind p (with_pair y queue) ys (All-tail (λ q. p.0 < q.0) y ys greater)
 
 -- the last pair of least f comes first
 in_order-next : (p : ℕ × ℕ) (xs ys : List (ℕ × ℕ)) → IsLeast p xs → All (λ q. p.0 < q.0) ys
     → in_order (xs ++ p ∷ ys) ≡ p ∷ in_order (xs ++ ys)
 in_order-next p xs ys least greater =
-    let step : ℕ × ℕ → List (ℕ × ℕ) → List (ℕ × ℕ) = inserted in
-    fold-append (λ queue pair. inserted pair queue) [] xs (p ∷ ys)
-    ∙ ap (λ q. fold (λ queue pair. inserted pair queue) q ys)
+    let step : ℕ × ℕ → List (ℕ × ℕ) → List (ℕ × ℕ) = with_pair in
+    fold-append (λ queue pair. with_pair pair queue) [] xs (p ∷ ys)
+    ∙ ap (λ q. fold (λ queue pair. with_pair pair queue) q ys)
     (inserted-least p (in_order xs) (All-permutation (λ o. p.0 ≤ o.0) xs (in_order xs) (in_order-permuted xs) least))
     ∙ pushed-behind p (in_order xs) ys greater
-    ∙ ap (λ q. p ∷ q) (sym (fold-append (λ queue pair. inserted pair queue) [] xs ys))
+    ∙ ap (λ q. p ∷ q) (sym (fold-append (λ queue pair. with_pair pair queue) [] xs ys))
 
 -- the pairs without the one that is taken
-pub in_order-remove : (pushed : List (ℕ × ℕ)) (i : ℕ) (p : ℕ × ℕ) → IsPlaceOfNext pushed i → p ≡ slice_index_or pushed i p
+pub in_order-remove : (pushed : List (ℕ × ℕ)) (i : ℕ) (p : ℕ × ℕ) → IsPlaceOfLeast pushed i → p ≡ slice_index_or pushed i p
     → in_order pushed ≡ p ∷ in_order (remove pushed i)
 in_order-remove pushed i p place is =
     let split : pushed ≡ take i pushed ++ p ∷ drop (suc i) pushed =
@@ -122,7 +122,7 @@ in_order-remove pushed i p place is =
     ap in_order split ∙ in_order-next p (take i pushed) (drop (suc i) pushed) least greater
 
 -- the pair that is taken has the least f of all
-pub in_order-least : (pushed : List (ℕ × ℕ)) (i : ℕ) (p : ℕ × ℕ) → IsPlaceOfNext pushed i → p ≡ slice_index_or pushed i p
+pub in_order-least : (pushed : List (ℕ × ℕ)) (i : ℕ) (p : ℕ × ℕ) → IsPlaceOfLeast pushed i → p ≡ slice_index_or pushed i p
     → IsLeast p (in_order pushed)
 in_order-least pushed i p place is =
     All-permutation (λ o. p.0 ≤ o.0) pushed (in_order pushed) (in_order-permuted pushed)
@@ -134,9 +134,9 @@ first-added p old new e = subst (IsPermutation (p ∷ new)) (sym e) (IsPermutati
 
 -- what holds of the pairs holds of the queue after a push, refused or not
 pub pushed-all : {T E : Type 0} (P : ℕ × ℕ → Type 0) (r : Result T E) (p : ℕ × ℕ) (old new : List (ℕ × ℕ))
-    → OnOk r (new ≡ inserted p old) → OnErr r (new ≡ old) → P p → All P old → All P new
+    → OnOk r (new ≡ with_pair p old) → OnErr r (new ≡ old) → P p → All P old → All P new
 pushed-all P (Ok x) p old new order refused one all =
-    subst (All P) (sym order) (All-permutation P (p ∷ old) (inserted p old) (inserted-adds p old) (All-cons P p old one all))
+    subst (All P) (sym order) (All-permutation P (p ∷ old) (with_pair p old) (inserted-adds p old) (All-cons P p old one all))
 pushed-all P (Err e) p old new order refused one all = subst (All P) (sym refused) all
 
 -- what holds of the pairs holds of those that are left
@@ -147,13 +147,13 @@ taken-all P (Some p) old new order all = All-tail P p new (subst (All P) order a
 
 -- a pair of the near ones goes among them, one of the far ones behind them
 pub pushed-near : (limit : ℕ) (p : ℕ × ℕ) (near far new : List (ℕ × ℕ)) → p.0 < limit → All (λ q. limit ≤ q.0) far
-    → new ≡ inserted p near → new ++ far ≡ inserted p (near ++ far)
+    → new ≡ with_pair p near → new ++ far ≡ with_pair p (near ++ far)
 pushed-near limit p near far new below from is =
     ap (λ front. front ++ far) is
     ∙ sym (inserted-in_front p near far (All-weaker (λ q. limit ≤ q.0) (λ q. p.0 ≤ q.0) (λ q h. omega arith) far from))
 
 pub pushed-far : (limit : ℕ) (p : ℕ × ℕ) (near far new : List (ℕ × ℕ)) → limit ≤ p.0 → All (λ q. q.0 < limit) near
-    → new ≡ inserted p far → near ++ new ≡ inserted p (near ++ far)
+    → new ≡ with_pair p far → near ++ new ≡ with_pair p (near ++ far)
 pushed-far limit p near far new below from is =
     ap (λ back. near ++ back) is
     ∙ sym (inserted-behind p near far (All-weaker (λ q. q.0 < limit) (λ q. q.0 < p.0) (λ q h. omega arith) near from))

@@ -6,9 +6,9 @@ use Rattle.std.proofs.lemmas.List.{get_or-map, map_push, get_or-set_other, set-g
 use Rattle.std.proofs.lemmas.List.Sums.{sum_by-cons, sum_by_more}
 use Rattle.std.proofs.lemmas.Bool.{cases_lt}
 use Rattle.std.proofs.lemmas.List.Elements.{All-nil, All-append, All-map, All-weaker}
-use Rattle.fc_frontier.specs.Queue.{IsLeast, inserted}
+use Rattle.fc_frontier.specs.Queue.{IsLeast, with_pair}
 use Rattle.fc_frontier.specs.Stack.{nodes_of}
-use Rattle.fc_frontier.specs.inner.Stack.{AreStacks, HasGrown, stacked, stack_pairs}
+use Rattle.fc_frontier.specs.inner.Stack.{AreStacks, HasGrown, queue_from, stack_pairs}
 use Rattle.fc_frontier.proofs.QueueLemmas.{inserted-behind, inserted-least}
 
 -- a node on top comes first
@@ -21,68 +21,68 @@ stack_pairs-at : (f : ℕ) (nodes : List ℕ) → All (λ p. p.0 ≡ f) (stack_p
 stack_pairs-at f nodes = All-map (λ p. p.0 ≡ f) (λ node. (f, node)) (reverse nodes) (λ k d below. refl)
 
 -- the pairs of stacks from f on have no lesser f
-pub stacked-from : (f : ℕ) (stacks : List (List ℕ)) → All (λ p. f ≤ p.0) (stacked f stacks)
+pub stacked-from : (f : ℕ) (stacks : List (List ℕ)) → All (λ p. f ≤ p.0) (queue_from f stacks)
 stacked-from f [] = All-nil (λ p. f ≤ p.0)
-stacked-from f (nodes ∷ stacks) = All-append (λ p. f ≤ p.0) (stack_pairs f nodes) (stacked (f + 1) stacks)
+stacked-from f (nodes ∷ stacks) = All-append (λ p. f ≤ p.0) (stack_pairs f nodes) (queue_from (f + 1) stacks)
     (All-weaker (λ p. p.0 ≡ f) (λ p. f ≤ p.0) (λ p h. omega arith) (stack_pairs f nodes) (stack_pairs-at f nodes))
-    (All-weaker (λ p. f + 1 ≤ p.0) (λ p. f ≤ p.0) (λ p h. omega arith) (stacked (f + 1) stacks) (stacked-from (f + 1) stacks))
+    (All-weaker (λ p. f + 1 ≤ p.0) (λ p. f ≤ p.0) (λ p h. omega arith) (queue_from (f + 1) stacks) (stacked-from (f + 1) stacks))
 
 -- a node that is put on a stack goes before all of no lesser f
 pub stacked-push : (f n node i : ℕ) (stacks : List (List ℕ)) → i < length stacks → n ≡ f + i
-    → stacked f (set stacks i (get_or stacks i [] ++ node ∷ [])) ≡ inserted (n, node) (stacked f stacks)
+    → queue_from f (set stacks i (get_or stacks i [] ++ node ∷ [])) ≡ with_pair (n, node) (queue_from f stacks)
 stacked-push f n node i [] below is = absurd (omega arith)
 stacked-push f n node zero (nodes ∷ stacks) below is =
     let same : n ≡ f = omega arith in
-    let least : IsLeast (n, node) (stacked f (nodes ∷ stacks)) =
-    All-weaker (λ p. f ≤ p.0) (λ p. n ≤ p.0) (λ p h. omega arith) (stacked f (nodes ∷ stacks)) (stacked-from f (nodes ∷ stacks)) in
-    ap (λ front. front ++ stacked (f + 1) stacks) (stack_pairs-push f node nodes)
-    ∙ ap (λ m. (m, node) ∷ stacked f (nodes ∷ stacks)) (sym same)
-    ∙ sym (inserted-least (n, node) (stacked f (nodes ∷ stacks)) least)
+    let least : IsLeast (n, node) (queue_from f (nodes ∷ stacks)) =
+    All-weaker (λ p. f ≤ p.0) (λ p. n ≤ p.0) (λ p h. omega arith) (queue_from f (nodes ∷ stacks)) (stacked-from f (nodes ∷ stacks)) in
+    ap (λ front. front ++ queue_from (f + 1) stacks) (stack_pairs-push f node nodes)
+    ∙ ap (λ m. (m, node) ∷ queue_from f (nodes ∷ stacks)) (sym same)
+    ∙ sym (inserted-least (n, node) (queue_from f (nodes ∷ stacks)) least)
 stacked-push f n node (suc i) (nodes ∷ stacks) below is =
     ap (λ rest. stack_pairs f nodes ++ rest) (stacked-push (f + 1) n node i stacks (omega arith) (omega arith))
-    ∙ sym (inserted-behind (n, node) (stack_pairs f nodes) (stacked (f + 1) stacks)
+    ∙ sym (inserted-behind (n, node) (stack_pairs f nodes) (queue_from (f + 1) stacks)
     (All-weaker (λ p. p.0 ≡ f) (λ p. p.0 < n) (λ p h. omega arith) (stack_pairs f nodes) (stack_pairs-at f nodes)))
 
 -- empty stacks have no pairs
 pub stacked-empty : (f : ℕ) (stacks : List (List ℕ)) → ((k : ℕ) → k < length stacks → get_or stacks k [] ≡ [])
-    → stacked f stacks ≡ []
+    → queue_from f stacks ≡ []
 stacked-empty f [] empty = refl
 stacked-empty f (nodes ∷ stacks) empty =
-    ap (λ nodes. stack_pairs f nodes ++ stacked (f + 1) stacks) (empty 0 (omega arith))
+    ap (λ nodes. stack_pairs f nodes ++ queue_from (f + 1) stacks) (empty 0 (omega arith))
     ∙ stacked-empty (f + 1) stacks (λ k below. empty (suc k) (omega arith))
 
 -- the top of the first stack that isn't empty comes first
 pub stacked-pop : (f n node i : ℕ) (nodes : List ℕ) (stacks : List (List ℕ)) → i < length stacks → n ≡ f + i
     → ((k : ℕ) → k < i → get_or stacks k [] ≡ []) → get_or stacks i [] ≡ nodes ++ node ∷ []
-    → stacked f stacks ≡ (n, node) ∷ stacked f (set stacks i nodes)
+    → queue_from f stacks ≡ (n, node) ∷ queue_from f (set stacks i nodes)
 stacked-pop f n node i nodes [] below is empty top = absurd (omega arith)
 stacked-pop f n node zero nodes (old ∷ stacks) below is empty top =
     let same : n ≡ f = omega arith in
-    ap (λ old. stack_pairs f old ++ stacked (f + 1) stacks) top
-    ∙ ap (λ front. front ++ stacked (f + 1) stacks) (stack_pairs-push f node nodes)
-    ∙ ap (λ m. (m, node) ∷ (stack_pairs f nodes ++ stacked (f + 1) stacks)) (sym same)
+    ap (λ old. stack_pairs f old ++ queue_from (f + 1) stacks) top
+    ∙ ap (λ front. front ++ queue_from (f + 1) stacks) (stack_pairs-push f node nodes)
+    ∙ ap (λ m. (m, node) ∷ (stack_pairs f nodes ++ queue_from (f + 1) stacks)) (sym same)
 stacked-pop f n node (suc i) nodes (old ∷ stacks) below is empty top =
     let none : old ≡ [] = empty 0 (omega arith) in
-    ap (λ old. stack_pairs f old ++ stacked (f + 1) stacks) none
+    ap (λ old. stack_pairs f old ++ queue_from (f + 1) stacks) none
     ∙ stacked-pop (f + 1) n node i nodes stacks (omega arith) (omega arith) (λ k inside. empty (suc k) (omega arith)) top
-    ∙ ap (λ old. (n, node) ∷ (stack_pairs f old ++ stacked (f + 1) (set stacks i nodes))) (sym none)
+    ∙ ap (λ old. (n, node) ∷ (stack_pairs f old ++ queue_from (f + 1) (set stacks i nodes))) (sym none)
 
 -- no pair has a lesser f than the first stack that isn't empty
 pub stacked-least : (f n i : ℕ) (stacks : List (List ℕ)) → n ≡ f + i → ((k : ℕ) → k < i → get_or stacks k [] ≡ [])
-    → All (λ p. n ≤ p.0) (stacked f stacks)
+    → All (λ p. n ≤ p.0) (queue_from f stacks)
 stacked-least f n i [] is empty = All-nil (λ p. n ≤ p.0)
 stacked-least f n zero (nodes ∷ stacks) is empty =
-    All-weaker (λ p. f ≤ p.0) (λ p. n ≤ p.0) (λ p h. omega arith) (stacked f (nodes ∷ stacks)) (stacked-from f (nodes ∷ stacks))
+    All-weaker (λ p. f ≤ p.0) (λ p. n ≤ p.0) (λ p h. omega arith) (queue_from f (nodes ∷ stacks)) (stacked-from f (nodes ∷ stacks))
 stacked-least f n (suc i) (nodes ∷ stacks) is empty =
-    subst (λ old. All (λ p. n ≤ p.0) (stack_pairs f old ++ stacked (f + 1) stacks)) (sym (empty 0 (omega arith)))
+    subst (λ old. All (λ p. n ≤ p.0) (stack_pairs f old ++ queue_from (f + 1) stacks)) (sym (empty 0 (omega arith)))
     (stacked-least (f + 1) n i stacks (omega arith) (λ k inside. empty (suc k) (omega arith)))
 
 -- the pairs are as many as the nodes of all stacks
-pub length-stacked : (f : ℕ) (stacks : List (List ℕ)) → length (stacked f stacks) ≡ sum_by length stacks
+pub length-stacked : (f : ℕ) (stacks : List (List ℕ)) → length (queue_from f stacks) ≡ sum_by length stacks
 length-stacked f [] = refl
 length-stacked f (nodes ∷ stacks) =
-    length-append (stack_pairs f nodes) (stacked (f + 1) stacks)
-    ∙ ap (λ n. n + length (stacked (f + 1) stacks)) (length-map (reverse nodes) (λ node. (f, node)) ∙ length-reverse nodes)
+    length-append (stack_pairs f nodes) (queue_from (f + 1) stacks)
+    ∙ ap (λ n. n + length (queue_from (f + 1) stacks)) (length-map (reverse nodes) (λ node. (f, node)) ∙ length-reverse nodes)
     ∙ ap (λ n. length nodes + n) (length-stacked (f + 1) stacks)
     ∙ sym (sum_by-cons length nodes stacks)
 
@@ -126,9 +126,9 @@ put_back stacks place old new below is same =
 
 -- the queue after a node was put on a stack
 pub pushed_on : (stacks : List (Vec ℕ)) (place node : ℕ) (old new : Vec ℕ) → place < length stacks → old ≡ get_or stacks place old
-    → new.items ≡ old.items ++ node ∷ [] → stacked 0 (nodes_of (set stacks place new)) ≡ inserted (place, node) (stacked 0 (nodes_of stacks))
+    → new.items ≡ old.items ++ node ∷ [] → queue_from 0 (nodes_of (set stacks place new)) ≡ with_pair (place, node) (queue_from 0 (nodes_of stacks))
 pushed_on stacks place node old new below is after =
-    ap (stacked 0) (nodes_of-set stacks place new
+    ap (queue_from 0) (nodes_of-set stacks place new
     ∙ ap (set (nodes_of stacks) place) (after ∙ ap (λ nodes. nodes ++ node ∷ []) (sym (nodes_at stacks place old below is))))
     ∙ stacked-push 0 place node place (nodes_of stacks) (omega (arith, length-nodes_of stacks)) (omega arith)
 
@@ -140,15 +140,15 @@ empty_before stacks first place are passed k below = ⊎_elim (are.empty k) (λ 
 -- the queue after the top of the first stack that isn't empty was taken
 pub popped_from : (stacks : List (Vec ℕ)) (place node : ℕ) (old new : Vec ℕ) → place < length stacks → old ≡ get_or stacks place old
     → old.items ≡ new.items ++ node ∷ [] → ((k : ℕ) → k < place → get_or (nodes_of stacks) k [] ≡ [])
-    → stacked 0 (nodes_of stacks) ≡ (place, node) ∷ stacked 0 (nodes_of (set stacks place new))
+    → queue_from 0 (nodes_of stacks) ≡ (place, node) ∷ queue_from 0 (nodes_of (set stacks place new))
 popped_from stacks place node old new below is before empty =
     stacked-pop 0 place node place new.items (nodes_of stacks) (omega (arith, length-nodes_of stacks)) (omega arith) empty
     (nodes_at stacks place old below is ∙ before)
-    ∙ ap (λ left. (place, node) ∷ stacked 0 left) (sym (nodes_of-set stacks place new))
+    ∙ ap (λ left. (place, node) ∷ queue_from 0 left) (sym (nodes_of-set stacks place new))
 
 -- no pairs where all stacks are empty
 pub none_left : (stacks : List (Vec ℕ)) (place : ℕ) → length stacks ≤ place
-    → ((k : ℕ) → k < place → get_or (nodes_of stacks) k [] ≡ []) → stacked 0 (nodes_of stacks) ≡ []
+    → ((k : ℕ) → k < place → get_or (nodes_of stacks) k [] ≡ []) → queue_from 0 (nodes_of stacks) ≡ []
 none_left stacks place past empty =
     stacked-empty 0 (nodes_of stacks) (λ k below. empty k (omega (arith, length-nodes_of stacks)))
 
@@ -160,7 +160,7 @@ length-more stacks i v below is =
     ∙ ap (λ nodes. sum_by length (take i (nodes_of stacks)) + length nodes) (nodes_at stacks i v below is)
 
 -- an empty stack more, behind
-stacked-more : (f : ℕ) (stacks : List (List ℕ)) → stacked f (stacks ++ [] ∷ []) ≡ stacked f stacks
+stacked-more : (f : ℕ) (stacks : List (List ℕ)) → queue_from f (stacks ++ [] ∷ []) ≡ queue_from f stacks
 stacked-more f [] = refl
 stacked-more f (nodes ∷ stacks) = ap (λ rest. stack_pairs f nodes ++ rest) (stacked-more (f + 1) stacks)
 

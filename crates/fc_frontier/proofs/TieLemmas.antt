@@ -9,7 +9,7 @@ use Rattle.std.proofs.lemmas.Bool.{cases_lt, cases_eq, eq-eqb, false≢true, le-
 use Rattle.std.proofs.lemmas.List.Elements.{All-cons, All-from_recursion, All-map, All-tail, All-weaker}
 use Rattle.std.proofs.lemmas.List.Sorted.{All-permutation, IsPermutation-map}
 use Rattle.fc_frontier.specs.Queue.{Adds, IsLeast}
-use Rattle.fc_frontier.specs.Tie.{Entry, TiedQueue, pair_of, pairs_of, ComesFirst, IsNext, IsOlder, Enters, Takes}
+use Rattle.fc_frontier.specs.Tie.{Entry, TiedQueue, pair_of, pairs_of, Precedes, PrecedesAll, IsOlder, Enters, Pops}
 use Rattle.fc_frontier.specs.inner.Tie.{entry_cmp}
 
 -- what is no less by a number and then by something else is greater by the number, or equal and no less by the other
@@ -24,7 +24,7 @@ not_less a b o h =
     (cases_lt a b)
 
 -- an entry that is no less in the heap comes first
-first-from_cmp : (entry other : Entry) → is_lt (entry_cmp entry other) ≡ false → ComesFirst entry other
+first-from_cmp : (entry other : Entry) → is_lt (entry_cmp entry other) ≡ false → Precedes entry other
 first-from_cmp entry other h =
     let by_node = nat_cmp other.node entry.node in
     let by_stamp = ordering_then (nat_cmp entry.stamp other.stamp) by_node in
@@ -42,9 +42,9 @@ first-from_cmp entry other h =
     (not_less other.f entry.f by_tie h)
 
 -- the greatest entry of a heap is next
-pub next-from_greatest : (entry : Entry) (entries : List Entry) → IsUpperBound entry_cmp entry entries → IsNext entry entries
+pub next-from_greatest : (entry : Entry) (entries : List Entry) → IsUpperBound entry_cmp entry entries → PrecedesAll entry entries
 next-from_greatest entry entries greatest =
-    All-weaker (λ other. lt_by_cmp entry_cmp entry other ≡ false) (ComesFirst entry) (first-from_cmp entry) entries
+    All-weaker (λ other. lt_by_cmp entry_cmp entry other ≡ false) (Precedes entry) (first-from_cmp entry) entries
     (All-from_recursion (λ other. lt_by_cmp entry_cmp entry other ≡ false) entries greatest)
 
 -- a pushed entry and those before it were pushed before the next
@@ -67,13 +67,13 @@ pub enters-adds : (entry : Entry) (old new : TiedQueue) → Enters entry old new
 enters-adds entry old new enters = IsPermutation-map pair_of (entry ∷ old.entries) new.entries enters.entries
 
 -- a pair that is taken was one pair more
-pub takes-adds : (pair : ℕ × ℕ) (old new : TiedQueue) → Takes pair old new → Adds (pairs_of new.entries) (pairs_of old.entries) pair
+pub takes-adds : (pair : ℕ × ℕ) (old new : TiedQueue) → Pops pair old new → Adds (pairs_of new.entries) (pairs_of old.entries) pair
 takes-adds pair old new takes = subst (Adds (pairs_of new.entries) (pairs_of old.entries)) (sym takes.is)
     (IsPermutation-map pair_of (takes.entry ∷ new.entries) old.entries takes.entries)
 
 -- a pair that is taken has the least f
-pub takes-least : (pair : ℕ × ℕ) (old new : TiedQueue) → Takes pair old new → IsLeast pair (pairs_of old.entries)
+pub takes-least : (pair : ℕ × ℕ) (old new : TiedQueue) → Pops pair old new → IsLeast pair (pairs_of old.entries)
 takes-least pair old new takes = subst (λ (p : ℕ × ℕ). IsLeast p (pairs_of old.entries)) (sym takes.is)
     (All-map (λ other. takes.entry.f ≤ other.0) pair_of old.entries
-    (All-weaker (ComesFirst takes.entry) (λ other. takes.entry.f ≤ other.f)
+    (All-weaker (Precedes takes.entry) (λ other. takes.entry.f ≤ other.f)
     (λ other first. ⊎_elim (λ less. omega arith) (λ same. omega arith) first) old.entries takes.next))

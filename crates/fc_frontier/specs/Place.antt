@@ -14,7 +14,7 @@ abbrev pub pairs_at : ℕ → List (ℕ × ℕ) → List (ℕ × ℕ)
 pairs_at ties placed = map (pair_at ties) placed
 
 -- the pair of the first of these was taken, and the others stay
-pub record TakesFirst (pair : ℕ × ℕ) (old new : List (ℕ × ℕ)) : Type 0 where
+pub record PopsFirst (pair : ℕ × ℕ) (old new : List (ℕ × ℕ)) : Type 0 where
   pub placed : ℕ × ℕ
   pub is : pair ≡ pair_at 256 placed
   pub order : old ≡ placed ∷ new

@@ -11,10 +11,10 @@ abbrev pub IsLeast : ℕ × ℕ → List (ℕ × ℕ) → Type 0
 IsLeast pair pairs = All (λ other. pair.0 ≤ other.0) pairs
 
 -- one pair more, before the first that has no lesser f: in front of all of equal f
-abbrev pub inserted : ℕ × ℕ → List (ℕ × ℕ) → List (ℕ × ℕ)
-inserted pair [] = pair ∷ []
-inserted pair (other ∷ others) = cond (nat_le pair.0 other.0) (pair ∷ other ∷ others) (other ∷ inserted pair others)
+abbrev pub with_pair : ℕ × ℕ → List (ℕ × ℕ) → List (ℕ × ℕ)
+with_pair pair [] = pair ∷ []
+with_pair pair (other ∷ others) = cond (nat_le pair.0 other.0) (pair ∷ other ∷ others) (other ∷ with_pair pair others)
 
 -- pairs that were pushed one by one, in the order in which they are taken
 abbrev pub in_order : List (ℕ × ℕ) → List (ℕ × ℕ)
-in_order pushed = fold (λ queue pair. inserted pair queue) [] pushed
+in_order pushed = fold (λ queue pair. with_pair pair queue) [] pushed

@@ -33,18 +33,18 @@ pub record Enters (entry : Entry) (old new : TiedQueue) : Type 0 where
   pub pushes : new.pushes ≡ min (old.pushes + 1) (2 ^ 32 - 1)
 
 -- the other entry has a greater f, or the same f and a greater tie, or the same f and tie and was pushed no later
-abbrev pub ComesFirst : Entry → Entry → Type 0
-ComesFirst entry other = (entry.f < other.f)
+abbrev pub Precedes : Entry → Entry → Type 0
+Precedes entry other = (entry.f < other.f)
     ⊎ ((entry.f ≡ other.f) × ((entry.tie < other.tie) ⊎ ((entry.tie ≡ other.tie) × (other.stamp ≤ entry.stamp))))
 
 -- each of these entries has a greater f, or the same f and a greater tie, or the same f and tie and was pushed no later
-abbrev pub IsNext : Entry → List Entry → Type 0
-IsNext entry entries = All (ComesFirst entry) entries
+abbrev pub PrecedesAll : Entry → List Entry → Type 0
+PrecedesAll entry entries = All (Precedes entry) entries
 
 -- an entry with this pair was taken: it stood there and was next, and the others stay
-pub record Takes (pair : ℕ × ℕ) (old new : TiedQueue) : Type 0 where
+pub record Pops (pair : ℕ × ℕ) (old new : TiedQueue) : Type 0 where
   pub entry : Entry
   pub is : pair ≡ pair_of entry
   pub entries : IsPermutation (entry ∷ new.entries) old.entries
-  pub next : IsNext entry old.entries
+  pub next : PrecedesAll entry old.entries
   pub pushes : new.pushes ≡ old.pushes

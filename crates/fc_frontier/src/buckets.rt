@@ -1,5 +1,5 @@
 ghost use Rattle.std.specs.Prelude.{◌≡◌, ◌+◌, ◌↔◌, [], ◌++◌, length, option_to_list, IsNone, IfSome, IfNone, OnOk, OnErr};
-ghost use Rattle.fc_frontier.specs.Queue.{Adds, IsLeast, inserted};
+ghost use Rattle.fc_frontier.specs.Queue.{Adds, IsLeast, with_pair};
 
 use crate::frontiers::{Frontier, Full};
 use crate::lists::ListFrontier;
@@ -47,7 +47,7 @@ impl Frontier for BucketFrontier {
         ensures added { OnOk result (Adds self.old self.new (f, node)) }
         ensures refused { OnErr result (self.new ≡ self.old) }
 
-        ensures order { OnOk result (self.new ≡ inserted (f, node) self.old) }
+        ensures order { OnOk result (self.new ≡ with_pair (f, node) self.old) }
     {
         if f < STACKS {
             self.near.push(f, node)

@@ -1,7 +1,7 @@
 ghost use Rattle.std.specs.Prelude.{◌≡◌, ◌^◌, ◌<◌, ◌↔◌, [], ◌++◌, length, option_to_list, IsNone, IfSome, IfNone, MatchOption, OnOk, OnErr};
 ghost use Rattle.std.specs.List.Sorted.{IsPermutation};
-ghost use Rattle.fc_frontier.specs.Queue.{Adds, IsLeast, inserted};
-ghost use Rattle.fc_frontier.specs.inner.Queue.{IsPlaceOfNext};
+ghost use Rattle.fc_frontier.specs.Queue.{Adds, IsLeast, with_pair};
+ghost use Rattle.fc_frontier.specs.inner.Queue.{IsPlaceOfLeast};
 
 use crate::frontiers::{Frontier, Full};
 use crate::walks::Pairs;
@@ -27,7 +27,7 @@ impl Model for ListFrontier {
 
 // The place of the pair that is taken next: the last one of least f.
 fn place_of_next(pairs: &[(u32, u32)]) -> Option<usize>
-    ensures place { MatchOption result (pairs.now ≡ []) (λ i. IsPlaceOfNext pairs.now i) }
+    ensures place { MatchOption result (pairs.now ≡ []) (λ i. IsPlaceOfLeast pairs.now i) }
 {
     if pairs.is_empty() {
         return None;
@@ -63,7 +63,7 @@ impl Frontier for ListFrontier {
         ensures added { OnOk result (Adds self.old self.new (f, node)) }
         ensures refused { OnErr result (self.new ≡ self.old) }
 
-        ensures order { OnOk result (self.new ≡ inserted (f, node) self.old) }
+        ensures order { OnOk result (self.new ≡ with_pair (f, node) self.old) }
     {
         self.pairs.push((f, node))?;
         Ok(())

@@ -1,8 +1,8 @@
 ghost use Rattle.std.specs.Prelude.{◌≡◌, ℕ, ◌+◌, ◌^◌, ◌<◌, ◌≤◌, ◌↔◌, List, [], ◌∷◌, ◌++◌, length, option_to_list, slice_index_or, vec_len, max, IsNone, IfSome, OnOk, OnErr};
 ghost use Rattle.std.specs.List.Sorted.{IsPermutation};
-ghost use Rattle.fc_frontier.specs.Queue.{IsLeast, inserted};
+ghost use Rattle.fc_frontier.specs.Queue.{IsLeast, with_pair};
 ghost use Rattle.fc_frontier.specs.Stack.{nodes_of};
-ghost use Rattle.fc_frontier.specs.Walk.{walked};
+ghost use Rattle.fc_frontier.specs.Walk.{pairs_in_turn};
 ghost use Rattle.fc_frontier.specs.inner.Stack.{HasGrown};
 
 use crate::frontiers::Full;
@@ -24,11 +24,11 @@ impl Model for Stacks {
     ghost use Rattle.std.specs.Prelude.{ℕ, List};
     ghost use Rattle.fc_frontier.specs.Stack.{nodes_of};
     ghost use Rattle.fc_frontier.specs.inner.Stack.{AreStacks};
-    ghost use Rattle.fc_frontier.specs.inner.Stack.{stacked};
+    ghost use Rattle.fc_frontier.specs.inner.Stack.{queue_from};
 
     ghost Value = { List (ℕ × ℕ) };
 
-    ghost view = { λ s. stacked 0 (nodes_of s.stacks.items) };
+    ghost view = { λ s. queue_from 0 (nodes_of s.stacks.items) };
 
     ghost invariant = { λ s. AreStacks (nodes_of s.stacks.items) s.first };
 }
@@ -75,7 +75,7 @@ impl Stacks {
     #[inline(always)]
     pub fn push(&mut self, place: u32, node: u32) -> Result<(), Full>
         requires near { place < 524288 }
-        ensures order { OnOk result (self.new ≡ inserted (place, node) self.old) }
+        ensures order { OnOk result (self.new ≡ with_pair (place, node) self.old) }
         ensures refused { OnErr result (self.new ≡ self.old) }
     {
         let place = place as usize;
@@ -113,7 +113,7 @@ impl Stacks {
 
     // The stacks, the one of place 0 first.
     pub fn as_slice(&self) -> &[Vec<u32>]
-        ensures items { IsPermutation (walked 0 (nodes_of result.now)) self.now }
+        ensures items { IsPermutation (pairs_in_turn 0 (nodes_of result.now)) self.now }
         ensures most { length result.now ≤ 524288 }
     {
         self.stacks.as_slice()

@@ -1,6 +1,6 @@
 ghost use Rattle.std.specs.Prelude.{◌≡◌, ◌↔◌, [], IsNone, IfSome, IfNone, OnOk, OnErr};
-ghost use Rattle.fc_frontier.specs.Place.{TakesFirst, pairs_at, place_of};
-ghost use Rattle.fc_frontier.specs.Queue.{Adds, IsLeast, inserted};
+ghost use Rattle.fc_frontier.specs.Place.{PopsFirst, pairs_at, place_of};
+ghost use Rattle.fc_frontier.specs.Queue.{Adds, IsLeast, with_pair};
 
 use crate::frontiers::{Frontier, Full};
 use crate::stacks::Stacks;
@@ -54,7 +54,7 @@ impl Frontier for TieBucketFrontier {
         ensures added { OnOk result (Adds (pairs_at 256 self.old) (pairs_at 256 self.new) (f, node)) }
         ensures refused { OnErr result (self.new ≡ self.old) }
 
-        ensures order { OnOk result (self.new ≡ inserted (place_of f 0, node) self.old) }
+        ensures order { OnOk result (self.new ≡ with_pair (place_of f 0, node) self.old) }
     {
         self.push_tied(f, 0, node)
     }
@@ -63,7 +63,7 @@ impl Frontier for TieBucketFrontier {
         ensures added { OnOk result (Adds (pairs_at 256 self.old) (pairs_at 256 self.new) (f, node)) }
         ensures refused { OnErr result (self.new ≡ self.old) }
 
-        ensures order { OnOk result (self.new ≡ inserted (place_of f tie, node) self.old) }
+        ensures order { OnOk result (self.new ≡ with_pair (place_of f tie, node) self.old) }
     {
         if f < NEAR {
             self.near.push(TIES * f + tie as u32, node)
@@ -78,7 +78,7 @@ impl Frontier for TieBucketFrontier {
         ensures none { IsNone result ↔ (pairs_at 256 self.old ≡ []) }
         ensures unchanged { IfNone result (self.new ≡ self.old) }
 
-        ensures order { IfSome result (λ p. TakesFirst p self.old self.new) }
+        ensures order { IfSome result (λ p. PopsFirst p self.old self.new) }
     {
         match self.near.pop_least() {
             Some((place, node)) => Some((place / TIES, node)),

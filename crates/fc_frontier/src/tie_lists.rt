@@ -1,9 +1,9 @@
 ghost use Rattle.std.specs.Prelude.{◌≡◌, ◌^◌, ◌<◌, ◌↔◌, [], length, map, IsNone, IfSome, IfNone, MatchOption, OnOk, OnErr};
 ghost use Rattle.std.specs.List.Sorted.{IsPermutation};
-ghost use Rattle.fc_frontier.specs.Place.{TakesFirst, pairs_at, place_of};
-ghost use Rattle.fc_frontier.specs.Queue.{IsLeast, inserted};
+ghost use Rattle.fc_frontier.specs.Place.{PopsFirst, pairs_at, place_of};
+ghost use Rattle.fc_frontier.specs.Queue.{IsLeast, with_pair};
 ghost use Rattle.fc_frontier.specs.Tie.{pairs_of};
-ghost use Rattle.fc_frontier.specs.inner.Queue.{IsPlaceOfNext};
+ghost use Rattle.fc_frontier.specs.inner.Queue.{IsPlaceOfLeast};
 ghost use Rattle.fc_frontier.specs.inner.Tie.{placed_of};
 
 use crate::frontiers::Full;
@@ -33,7 +33,7 @@ impl Model for TieList {
 
 // Where the pair stands that is taken next: the last one at the least place.
 fn next_of(entries: &[TiedPair]) -> Option<usize>
-    ensures place { MatchOption result (entries.now ≡ []) (λ i. IsPlaceOfNext (map placed_of entries.now) i) }
+    ensures place { MatchOption result (entries.now ≡ []) (λ i. IsPlaceOfLeast (map placed_of entries.now) i) }
 {
     if entries.is_empty() {
         return None;
@@ -59,7 +59,7 @@ impl TieList {
 
     // Puts the pair before all of equal f and tie.
     pub fn push(&mut self, f: u32, tie: u8, node: u32) -> Result<(), Full>
-        ensures order { OnOk result (self.new ≡ inserted (place_of f tie, node) self.old) }
+        ensures order { OnOk result (self.new ≡ with_pair (place_of f tie, node) self.old) }
         ensures refused { OnErr result (self.new ≡ self.old) }
     {
         self.entries.push(TiedPair::new(f, tie, 0, node))?;
@@ -68,7 +68,7 @@ impl TieList {
 
     // Takes out the first pair.
     pub fn pop_least(&mut self) -> Option<(u32, u32)>
-        ensures order { IfSome result (λ p. TakesFirst p self.old self.new) }
+        ensures order { IfSome result (λ p. PopsFirst p self.old self.new) }
         ensures least { IfSome result (λ p. IsLeast p (pairs_at 256 self.old)) }
         ensures none { IsNone result ↔ (self.old ≡ []) }
         ensures unchanged { IfNone result (self.new ≡ self.old) }

@@ -1,6 +1,6 @@
 ghost use Rattle.std.specs.Prelude.{◌≡◌, ◌↔◌, [], IsNone, IfSome, IfNone, OnOk, OnErr};
 ghost use Rattle.fc_frontier.specs.Queue.{Adds, IsLeast};
-ghost use Rattle.fc_frontier.specs.Tie.{pairs_of, Enters, Takes};
+ghost use Rattle.fc_frontier.specs.Tie.{pairs_of, Enters, Pops};
 
 use crate::frontiers::{Frontier, Full};
 use crate::tied_pairs::TiedPair;
@@ -73,7 +73,7 @@ impl Frontier for TieFrontier {
         ensures none { IsNone result ↔ (pairs_of self.old.entries ≡ []) }
         ensures unchanged { IfNone result (self.new ≡ self.old) }
 
-        ensures order { IfSome result (λ p. Takes p self.old self.new) }
+        ensures order { IfSome result (λ p. Pops p self.old self.new) }
     {
         let tied = self.heap.pop()?;
         Some(tied.pair())

@@ -3,7 +3,7 @@ ghost use Rattle.std.specs.Iterator.{YieldsFirst, item_count};
 ghost use Rattle.fc_frontier.specs.Place.{pairs_at};
 ghost use Rattle.fc_frontier.specs.Stack.{nodes_of};
 ghost use Rattle.fc_frontier.specs.Tie.{pairs_of};
-ghost use Rattle.fc_frontier.specs.Walk.{walked};
+ghost use Rattle.fc_frontier.specs.Walk.{pairs_in_turn};
 
 use crate::tied_pairs::TiedPair;
 use std::marker::Model;
@@ -32,11 +32,11 @@ impl<'a> Model for Pairs<'a> {
     ghost use Rattle.fc_frontier.specs.Place.{pairs_at};
     ghost use Rattle.fc_frontier.specs.Stack.{nodes_of};
     ghost use Rattle.fc_frontier.specs.Tie.{pairs_of};
-    ghost use Rattle.fc_frontier.specs.Walk.{walked};
+    ghost use Rattle.fc_frontier.specs.Walk.{pairs_in_turn};
 
     ghost Value = { List (ℕ × ℕ) };
 
-    ghost view = { λ s. pairs_at s.near.ties (walked s.near.place (s.near.nodes.now ∷ nodes_of s.near.stacks.now)) ++ s.far.now ++ pairs_of s.tied.now };
+    ghost view = { λ s. pairs_at s.near.ties (pairs_in_turn s.near.place (s.near.nodes.now ∷ nodes_of s.near.stacks.now)) ++ s.far.now ++ pairs_of s.tied.now };
 
     ghost invariant = { λ s. (0 < s.near.ties) × (s.near.place + length s.near.stacks.now ≤ 524288) };
 }
@@ -45,7 +45,7 @@ impl<'a> Near<'a> {
     // Goes on to the first place that has a node left, if any has.
     fn skip(&mut self)
         requires room { self.old.place + length self.old.stacks.now ≤ 524288 }
-        ensures same { walked self.new.place (self.new.nodes.now ∷ nodes_of self.new.stacks.now) ≡ walked self.old.place (self.old.nodes.now ∷ nodes_of self.old.stacks.now) }
+        ensures same { pairs_in_turn self.new.place (self.new.nodes.now ∷ nodes_of self.new.stacks.now) ≡ pairs_in_turn self.old.place (self.old.nodes.now ∷ nodes_of self.old.stacks.now) }
         ensures ties { self.new.ties ≡ self.old.ties }
         ensures room { self.new.place + length self.new.stacks.now ≤ 524288 }
         ensures end { self.new.nodes.now ≡ [] → self.new.stacks.now ≡ [] }
@@ -66,7 +66,7 @@ impl<'a> Pairs<'a> {
     /// list. A queue that keeps a list alone hands in no stacks.
     pub fn new(stacks: &'a [Vec<u32>], far: &'a [(u32, u32)]) -> Pairs<'a>
         requires room { length stacks.now ≤ 1024 }
-        ensures items { result ≡ walked 0 (nodes_of stacks.now) ++ far.now }
+        ensures items { result ≡ pairs_in_turn 0 (nodes_of stacks.now) ++ far.now }
     {
         Pairs::of_stacks(1, stacks, far, &[])
     }
@@ -81,7 +81,7 @@ impl<'a> Pairs<'a> {
     ) -> Pairs<'a>
         requires ties { 0 < ties }
         requires room { length stacks.now ≤ 524288 }
-        ensures items { result ≡ pairs_at ties (walked 0 (nodes_of stacks.now)) ++ far.now ++ pairs_of tied.now }
+        ensures items { result ≡ pairs_at ties (pairs_in_turn 0 (nodes_of stacks.now)) ++ far.now ++ pairs_of tied.now }
     {
         let (nodes, stacks) = match stacks.split_first() {
             Some((nodes, others)) => (nodes.as_slice(), others),

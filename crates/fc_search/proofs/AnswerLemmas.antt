@@ -27,12 +27,12 @@ use Rattle.fc_best_first.proofs.FloorLemmas.{open_floors}
 use Rattle.fc_best_first.specs.Graph.{IsClosedInside, IsLawful}
 use Rattle.fc_best_first.proofs.ClosedLemmas.{closed_inside, expanded_covered, light_covered, noted_under, rows as codes_of}
 use Rattle.fc_tables.specs.Table.{as_boards}
-use Rattle.fc_canonical.specs.Spelled.{IsKeyIn, spelled}
+use Rattle.fc_canonical.specs.Spelled.{IsKeyIn, board_of_bytes}
 use Rattle.fc_codes.specs.Spelled.{board_of_code}
 use Rattle.fc_classes.specs.Namings.{IsNaming, by_codes, by_keys}
 use Rattle.fc_classes.proofs.TableLemmas.{board_listed, name_listed, closed_board, lawful}
 use Rattle.fc_answers.specs.declared.answers.Verdict.TheVariants.{Shortest, Won, CannotWin, GaveUp}
-use Rattle.fc_methods.specs.Method.{Asked, shortest_asked}
+use Rattle.fc_methods.specs.Method.{QuestionData, shortest_asked}
 use Rattle.fc_search.specs.Problem.{Problem, classes_of, problem_of, shortest_from, task_of_problem}
 use Rattle.fc_answers.specs.declared.answers.Verdict.{Verdict}
 use Rattle.fc_answers.specs.Verdict.{IsRight}
@@ -42,7 +42,7 @@ use Rattle.fc_answers.specs.Table.{Listing, HaveKeysOnce, IsRising}
 use Rattle.fc_answers.specs.inner.Table.{at_no_cost, inside}
 use Rattle.fc_answers.proofs.OrderLemmas.{in_order}
 use Rattle.fc_answers.proofs.RowLemmas.{free_listed, freely_listed, inside_listed, inside_once, listed_inside, no_cost_once}
-use Rattle.fc_search.specs.Shown.{capped}
+use Rattle.fc_search.specs.Shown.{number_within}
 use Rattle.fc_search.specs.inner.Stored.{costs_of}
 use Rattle.fc_search.specs.inner.Walk.{IsAtClass}
 use Rattle.fc_search.proofs.BetweenLemmas.{rows_between}
@@ -55,11 +55,11 @@ up_to : {limit : Option ℕ} → limit ≡ None → (n : ℕ) → IsUpTo limit n
 up_to whole n = subst (λ l. IsUpTo l n) (sym whole) tt
 
 -- the limit, where there is one, is no less than what is capped by it, and that is no more than it was
-pub capped_most : (limit : Option ℕ) (n : ℕ) → capped limit n ≤ n
+pub capped_most : (limit : Option ℕ) (n : ℕ) → number_within limit n ≤ n
 capped_most None n = omega arith
 capped_most (Some limit) n = omega arith
 
-pub capped_up : (limit : Option ℕ) (n floor : ℕ) → floor ≤ capped limit n → IsUpTo limit floor
+pub capped_up : (limit : Option ℕ) (n floor : ℕ) → floor ≤ number_within limit n → IsUpTo limit floor
 capped_up None n floor le = tt
 capped_up (Some limit) n floor le = omega (arith, le)
 
@@ -201,15 +201,15 @@ module _ (pr : Problem) (s : Store (List ℕ)) (names : IsNaming (by_codes pr.st
       (λ e there.
       let key = name_listed by_keys table.rows e there in
       let at = within (key.0, key.1) key.2 in
-      let same : e ≡ (spelled key.0, key.1) = key.3 in (
+      let same : e ≡ (board_of_bytes key.0, key.1) = key.3 in (
         subst (Contains (as_boards (costs_of pr.start s))) (sym same) (board_listed by_keys (costs_of pr.start s) key.0 key.1 at.0),
         subst (λ f. IsPosition f.0) (sym same) (listed_key sound key.0 key.1 at.0).position.position,
         subst (λ f. f.1 < n) (sym same) (omega (arith, at.1)),
       ))
       (λ e there below.
       let key = name_listed by_keys (costs_of pr.start s) e there in
-      let same : e ≡ (spelled key.0, key.1) = key.3 in
-      let less = guides_under pr.method.bound (spelled key.0) (listed_key sound key.0 key.1 key.2).position.position in
+      let same : e ≡ (board_of_bytes key.0, key.1) = key.3 in
+      let less = guides_under pr.method.bound (board_of_bytes key.0) (listed_key sound key.0 key.1 key.2).position.position in
       let near = subst (λ f. f.1 + low f.0 < n) same below in
       subst (Contains (as_boards table.rows)) (sym same)
       (board_listed by_keys table.rows key.0 key.1 (Contains-permutation (inside guide n (costs_of pr.start s)) table.rows (key.0, key.1) moved
@@ -222,7 +222,7 @@ module _ (pr : Problem) (s : Store (List ℕ)) (names : IsNaming (by_codes pr.st
           classes = λ e there. let at = within e there in listed_key sound e.0 e.1 at.0;
         };
         closed = subst (λ k. boards.IsClosedBelow (low_of k) pr.game table.rule pr.start n (as_boards table.rows)) (sym bounded) ruled_so;
-        below = λ e there. subst (λ k. e.1 + guide_of k (spelled e.0) < n) (sym bounded) (within e there).1;
+        below = λ e there. subst (λ k. e.1 + guide_of k (board_of_bytes e.0) < n) (sym bounded) (within e there).1;
       }
 
   -- the table of a search that found a shortest list shows that none is shorter
@@ -298,7 +298,7 @@ module _ (pr : Problem) (s : Store (List ℕ)) (names : IsNaming (by_codes pr.st
       × IsPermutation (inside (guide_of pr.method.bound) n (costs_of pr.start s)) table.rows
   inside_table n sound =
       let room = sound.room in
-      let test : (List ℕ × ℕ) → Bool = λ e. nat_lt (e.1 + guide_of pr.method.bound (spelled e.0)) n in
+      let test : (List ℕ × ℕ) → Bool = λ e. nat_lt (e.1 + guide_of pr.method.bound (board_of_bytes e.0)) n in
       as_table (inside (guide_of pr.method.bound) n (costs_of pr.start s))
       (inside_once (guide_of pr.method.bound) n (costs_of pr.start s) (stored_once pr s names pp sound))
       (omega (arith, length-filter test (costs_of pr.start s), count_by-le-length test (costs_of pr.start s), stored_long pr.start s, room))
@@ -392,7 +392,7 @@ one_of_three g b budget CannotWin right = right
 one_of_three g b budget (GaveUp told) right = right
 
 -- a question of a shortest list, with a start, is the problem of one
-pub asked_shortest : (q : Asked) (g : GameRules) (rule given : ℕ) (b : Board) (budget : ℕ) → q ≡ shortest_asked g rule budget
+pub asked_shortest : (q : QuestionData) (g : GameRules) (rule given : ℕ) (b : Board) (budget : ℕ) → q ≡ shortest_asked g rule budget
     → rule ≡ given → problem_of q b ≡ shortest_from g given b budget
 asked_shortest q g rule given b budget asked same =
-    ap (λ (x : Asked). problem_of x b) asked ∙ ap (λ (r : ℕ). shortest_from g r b budget) same
+    ap (λ (x : QuestionData). problem_of x b) asked ∙ ap (λ (r : ℕ). shortest_from g r b budget) same

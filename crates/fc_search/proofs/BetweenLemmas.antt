@@ -6,11 +6,11 @@ use Rattle.fc_position.specs.Board.{Board}
 use Rattle.fc_position.specs.Position.{IsPosition}
 use Rattle.fc_moves.specs.GameRules.{GameRules}
 use Rattle.fc_bound.specs.LowerBound.{IsLowerBound}
-use Rattle.fc_tables.specs.Table.{Table, Covered, IsClosedBelow, IsClosedInside}
+use Rattle.fc_tables.specs.Table.{Table, IsCoveredBelow, IsClosedBelow, IsClosedInside}
 
 -- what a table covers is covered by those of its pairs whose cost and bound are below n
 between-covered : (low : Board → ℕ) (n : ℕ) (S T : Table) (x : Board) (d : ℕ) → IsLowerBound low
-    → ((e : Board × ℕ) → Contains T e → e.1 + low e.0 < n → Contains S e) → Covered low n T x d → Covered low n S x d
+    → ((e : Board × ℕ) → Contains T e → e.1 + low e.0 < n → Contains S e) → IsCoveredBelow low n T x d → IsCoveredBelow low n S x d
 between-covered low n S T x d lower inside covered =
     ⊎_elim (λ far. inl far)
     (λ (e, listed, same, cost).

@@ -29,7 +29,7 @@ use Rattle.fc_classes.specs.Namings.{IsNaming, by_codes}
 use Rattle.fc_search.specs.Need.{NeedsMore}
 use Rattle.fc_search.specs.Problem.{Problem, classes_of, task_of_problem}
 use Rattle.fc_search.specs.Search.{State}
-use Rattle.fc_search.specs.Shown.{capped, HasFound, HasFoundBy, HasShownBy, IsFloorAt, IsFloorBut}
+use Rattle.fc_search.specs.Shown.{number_within, HasFound, HasFoundBy, HasShownBy, IsFloorAt, IsFloorBut}
 use Rattle.fc_search.specs.inner.Stored.{costs_of}
 use Rattle.fc_search.specs.inner.Walk.{IsAtClass}
 use Rattle.fc_search.proofs.NeedLemmas.{needs_more, needs_reach}
@@ -92,7 +92,7 @@ module _ (s : State) (names : IsNaming (by_codes s.problem.start) s.problem.game
       → IsFloorBut s number floor → Holding floor
   but_holding number floor sound settled (x, mark, at, least) =
       let most = mark.cost + bound_at s.store number in
-      floor_but_holds s.problem s.store names fits heavy number x mark (capped s.problem.limit most) floor sound settled at
+      floor_but_holds s.problem s.store names fits heavy number x mark (number_within s.problem.limit most) floor sound settled at
       (capped_most s.problem.limit most) least (capped_up s.problem.limit most floor least.within)
 
   -- and where that one was taken when the search gave up
@@ -103,8 +103,8 @@ module _ (s : State) (names : IsNaming (by_codes s.problem.start) s.problem.game
       let here : IsAt (task_of_problem s.problem) s.store number mark held.4.3 =
       subst (λ m. IsAt (task_of_problem s.problem) s.store number m held.4.3) (sym both.1) taken.at in
       let same : f ≡ held.4.3 = at_same s.store number (s.problem.method.strategy.weight.parts * mark.cost) f held.4.3 is_at here in
-      floor_at_holds s.problem s.store names fits heavy number x mark f (capped s.problem.limit most) floor held.0 held.5 at
-      (under_less (task_of_problem s.problem) s.store number mark f most (capped s.problem.limit most) (capped_most s.problem.limit most) told.under)
+      floor_at_holds s.problem s.store names fits heavy number x mark f (number_within s.problem.limit most) floor held.0 held.5 at
+      (under_less (task_of_problem s.problem) s.store number mark f most (number_within s.problem.limit most) (capped_most s.problem.limit most) told.under)
       (subst (λ h. f_of (task_of_problem s.problem) s.store number mark < h → IsDone s.problem.method.strategy.expansion (task_of_problem s.problem) s.store x mark.cost h) (sym same)
       (subst (λ v. f_of (task_of_problem s.problem) s.store number mark < held.4.3 → IsDone s.problem.method.strategy.expansion (task_of_problem s.problem) s.store v mark.cost held.4.3) (sym both.0)
       (subst (λ m. f_of (task_of_problem s.problem) s.store number m < held.4.3 → IsDone s.problem.method.strategy.expansion (task_of_problem s.problem) s.store held.4.0 m.cost held.4.3) (sym both.1) taken.done)))

@@ -6,7 +6,7 @@ use Rattle.fc_best_first.specs.Graph.{Graph, Task}
 use Rattle.fc_classes.specs.Classes.{classes}
 use Rattle.fc_classes.specs.Namings.{by_codes}
 use Rattle.fc_methods.specs.declared.methods.Method.{Method}
-use Rattle.fc_methods.specs.Method.{Asked, as_written}
+use Rattle.fc_methods.specs.Method.{QuestionData, as_written}
 
 -- a problem: by how few moves of the game a list wins from the start, the method by which that is searched, and the limit, a
 -- number of moves from which on lists aren't wanted, if there is one
@@ -17,11 +17,11 @@ pub record Problem : Type 0 where
   pub limit : Option ℕ
 
 -- the problem of a question, a start and perhaps a limit
-abbrev pub problem_below : Asked → Board → Option ℕ → Problem
+abbrev pub problem_below : QuestionData → Board → Option ℕ → Problem
 problem_below q b limit = record { game = q.game; method = q.method; start = b; limit = limit }
 
 -- the problem of a question and a start
-abbrev pub problem_of : Asked → Board → Problem
+abbrev pub problem_of : QuestionData → Board → Problem
 problem_of q b = problem_below q b None
 
 -- the problem of a shortest list, searched by the plain bound under a home rule and within a budget

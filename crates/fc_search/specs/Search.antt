@@ -2,12 +2,13 @@
 use Rattle.std.specs.Prelude.{◌≡◌, ℕ, ◌<◌, ◌≤◌, List, Option, None, Some, length}
 use Rattle.fc_position.specs.Board.{Board}
 use Rattle.fc_moves.specs.GameRules.{GameRules}
+use Rattle.fc_bound.specs.declared.kinds.BoundKind.{BoundKind}
 use Rattle.fc_best_first.specs.declared.books.Mark.{Mark}
 use Rattle.fc_best_first.specs.declared.turns.Status.{Status}
 use Rattle.fc_best_first.specs.declared.turns.Status.TheVariants.{Running, Won, CannotWin, GaveUp, Stopped}
 use Rattle.fc_best_first.specs.declared.searches.SearchFault.{SearchFault}
 use Rattle.fc_best_first.specs.declared.searches.SearchFault.TheVariants as fault
-use Rattle.fc_best_first.specs.Search.{Begins, Runs}
+use Rattle.fc_best_first.specs.Search.{Begins, Progress, Runs}
 use Rattle.fc_best_first.specs.Shown.{IsLeastOpen}
 use Rattle.fc_best_first.specs.Store.{Store, IsStored}
 use Rattle.fc_answers.specs.declared.answers.Answer.{Answer}
@@ -27,6 +28,21 @@ pub record State : Type 0 where
   pub store : Store (List ℕ)
   pub status : Status (List ℕ)
   pub floor : ℕ
+
+module _ {S : Type 0} where
+  -- where a search by classes stands: of this game, settled by this home rule, with this kind of bound, from this start
+  abbrev pub state_of : GameRules → ℕ → BoundKind → Board → Progress S (List ℕ) → State
+  state_of g rule bound start search = record {
+    problem = record {
+      game = g;
+      method = record { rule = rule; bound = bound; strategy = search.strategy };
+      start = start;
+      limit = search.limit;
+    };
+    store = search.store;
+    status = search.status;
+    floor = search.floor;
+  }
 
 -- the verdict is of the kind of the status that a search ends with: by weight 1 as many moves as the won class costs, and
 -- by more no more than that, since a class on the way may have been met at less cost after it, with the least that what is open

@@ -39,20 +39,20 @@ abbrev pub HasFound : State → Option (List Move) → Type 0
 HasFound s found = HasFoundBy s s.status found
 
 -- the number, but the limit where there is one that is lower
-abbrev pub capped : Option ℕ → ℕ → ℕ
-capped None n = n
-capped (Some limit) n = min n limit
+abbrev pub number_within : Option ℕ → ℕ → ℕ
+number_within None n = n
+number_within (Some limit) n = min n limit
 
 -- the number is the least that what is open tells, and no more than the class with this number costs and what is noted of it, nor than
 -- the limit
 abbrev pub IsFloorBut : State → ℕ → ℕ → Type 0
 IsFloorBut s number floor = (class : List ℕ) × (mark : Mark) × IsStored s.store number class mark
-    × IsLeastOpen (task_of_problem s.problem) s.store (capped s.problem.limit (mark.cost + bound_at s.store number)) floor
+    × IsLeastOpen (task_of_problem s.problem) s.store (number_within s.problem.limit (mark.cost + bound_at s.store number)) floor
 
 -- the number is the least that what is open tells, and no more than what the class with this number tells, nor than the limit
 abbrev pub IsFloorAt : State → ℕ → ℕ → Type 0
 IsFloorAt s number floor = (most : ℕ) × TellsAt (task_of_problem s.problem) s.store number most
-    × IsLeastOpen (task_of_problem s.problem) s.store (capped s.problem.limit most) floor
+    × IsLeastOpen (task_of_problem s.problem) s.store (number_within s.problem.limit most) floor
 
 -- a search by whose status no list that is wanted wins shows its limit, which none is below, or, where it has none, that none
 -- wins; one that ended with a won class the least that what is open tells, and that class; one that ended with a class whose child

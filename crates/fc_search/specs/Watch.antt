@@ -1,5 +1,5 @@
 -- Searches that tell how far they are, and who hears it.
-use Rattle.std.specs.Prelude.{◌≡◌, ◌≢◌, ℕ, zero, suc, ◌+◌, ◌*◌, ◌<◌, ◌≤◌, ◌⊎◌, max, List, [], ◌∷◌, ◌++◌, length, None, Result}
+use Rattle.std.specs.Prelude.{◌≡◌, ◌≢◌, ℕ, zero, suc, ◌+◌, ◌*◌, ◌<◌, ◌≤◌, ◌⊎◌, max, List, [], ◌∷◌, ◌++◌, length, None, Result, MatchResult}
 use Rattle.fc_frontier.specs.Queue.{Adds}
 use Rattle.fc_moves.specs.declared.steps.Move.{Move}
 use Rattle.fc_moves.specs.GameRules.{GameRules}
@@ -23,12 +23,12 @@ module _ {L E : Type 0} where
   HearsAll hears old (far ∷ later) new = (mid : L) × hears old far mid × HearsAll hears mid later new
 
 -- what a listener hears: how far searches are; or a better list, or one with a greater number of moves that none is below
-pub data Heard : Type 0 where
-  Far : Progress → Heard
-  Better : List Move → ℕ → Heard
+pub data Report : Type 0 where
+  Far : Progress → Report
+  Better : List Move → ℕ → Report
 
 -- what hearing how far a search is does to a listener
-abbrev pub HearsFar : {L : Type 0} → (L → Heard → L → Type 0) → L → Progress → L → Type 0
+abbrev pub HearsFar : {L : Type 0} → (L → Report → L → Type 0) → L → Progress → L → Type 0
 HearsFar hears old far new = hears old (Far far) new
 
 -- where a search stands: what it stores and has open, its status, its floor, and how many turns there were
@@ -129,3 +129,17 @@ IsHeardAtMost p heard = (heard ≡ []) ⊎ IsHeardInPart p heard
 abbrev pub TellFloors : GameRules → Board → List Progress → Type 0
 TellFloors g b [] = Unit {0}
 TellFloors g b (far ∷ heard) = ((moves : List Move) → Wins g b moves → far.at_least ≤ length moves) × TellFloors g b heard
+
+module _ {L A E : Type 0} (hears : L → Report → L → Type 0) (p : Problem) where
+  -- a listener hears of a search of the problem to its end, from which the answer has its verdict; or where a growth was refused,
+  -- nothing, or of a part of it
+  abbrev pub HearsToVerdict : Result A E → (A → Verdict) → L → L → Type 0
+  HearsToVerdict result verdict_of old new = (heard : List Progress) × HearsAll (HearsFar hears) old heard new
+      × MatchResult result (λ answer. IsHeardToEnd p heard (verdict_of answer)) (λ refused. IsHeardAtMost p heard)
+
+module _ {L E : Type 0} (hears : L → Report → L → Type 0) (p : Problem) where
+  -- a listener hears of a search of the problem up to where it stands; or where a growth was refused, nothing, or of a part of it;
+  -- and each number of moves that it is told is one that no list that wins is shorter than
+  abbrev pub HearsSearch : Result State E → L → L → Type 0
+  HearsSearch result old new = (heard : List Progress) × HearsAll (HearsFar hears) old heard new × TellFloors p.game p.start heard
+      × MatchResult result (IsHeardOn p heard) (λ refused. IsHeardAtMost p heard)

@@ -29,10 +29,10 @@ pub trait Listener {
     ghost use Rattle.std.specs.Prelude.{◌≤◌, All, length};
     ghost use Rattle.fc_moves.specs.MoveText.{HasText};
     ghost use Rattle.fc_answers.specs.declared.answers.TheConstants.{MOST_MOVES};
-    ghost use Rattle.fc_search.specs.Watch.{Better, Far, Heard};
+    ghost use Rattle.fc_search.specs.Watch.{Better, Far, Report};
 
     /// What hearing one or the other does to the listener.
-    ghost hears: { Self → Heard → Self → Type 0 };
+    ghost hears: { Self → Report → Self → Type 0 };
 
     /// Hears once more how far they are.
     fn hear(&mut self, far: Progress)

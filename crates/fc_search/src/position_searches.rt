@@ -13,7 +13,7 @@ ghost use Rattle.fc_methods.specs.Method.{shortest_asked};
 ghost use Rattle.fc_search.specs.Problem.{problem_below, problem_of, shortest_from, task_of_problem};
 ghost use Rattle.fc_search.specs.Search.{Answers, IsVerdict, IsOfStatus, IsRefused, IsUnanswered};
 ghost use Rattle.fc_answers.specs.Table.{IsCoded};
-ghost use Rattle.fc_search.specs.inner.Search.{IsFloorOf, Spells};
+ghost use Rattle.fc_search.specs.inner.Search.{IsFloorOf, IsVerdictOf, Spells};
 
 use fc_answers::{Answer, MoveList, Verdict};
 use fc_best_first as best_first;
@@ -37,21 +37,11 @@ pub struct Search<F: Frontier + Drop, G: Game + Drop> {
 }
 
 impl<F: Frontier + Drop, G: Game + Drop> Model for Search<F, G> {
-    ghost use Rattle.fc_search.specs.Search.{State};
+    ghost use Rattle.fc_search.specs.Search.{State, state_of};
 
     ghost Value = { State };
 
-    ghost view = { λ s. record {
-      problem = record {
-        game = G.game s.search.space.rules.game;
-        method = record { rule = s.search.space.rules.rule; bound = s.search.space.rules.kind; strategy = s.search.strategy };
-        start = s.search.space.start;
-        limit = s.search.limit;
-      };
-      store = s.search.store;
-      status = s.search.status;
-      floor = s.search.floor;
-    } };
+    ghost view = { λ s. state_of (G.game s.search.space.rules.game) s.search.space.rules.rule s.search.space.rules.kind s.search.space.start s.search };
 }
 
 impl<F: Frontier + Drop, G: Game + Drop> Search<F, G> {
@@ -219,12 +209,9 @@ impl<F: Frontier + Drop, G: Game + Drop> Search<F, G> {
         requires shown { Shows (task_of_problem self.now.problem) self.now.store self.now.status }
         requires done { self.now.status ≡ Status.Won number }
         requires whole { self.now.problem.limit ≡ None }
-        ensures shortest { IfOk result (λ moves. IsEven self.now.problem.method.strategy.weight
-            → IsVerdict self.now.problem (Verdict.Shortest moves)
-            × IsOfStatus self.now.problem self.now.store self.now.status (Verdict.Shortest moves)) }
-        ensures within { IfOk result (λ moves. self.now.problem.method.strategy.weight.parts < self.now.problem.method.strategy.weight.times → (floor : ℕ) → IsFloorOf self.now number floor
-            → IsVerdict self.now.problem (Verdict.Won moves floor)
-            × IsOfStatus self.now.problem self.now.store self.now.status (Verdict.Won moves floor)) }
+        ensures shortest { IfOk result (λ moves. IsEven self.now.problem.method.strategy.weight → IsVerdictOf self.now (Verdict.Shortest moves)) }
+        ensures within { IfOk result (λ moves. self.now.problem.method.strategy.weight.parts < self.now.problem.method.strategy.weight.times
+            → (floor : ℕ) → IsFloorOf self.now number floor → IsVerdictOf self.now (Verdict.Won moves floor)) }
     {
         self.known();
         let moves = self.moves_to(number)?;

@@ -7,7 +7,7 @@ ghost use Rattle.fc_bound.specs.Kinds.{guide_of};
 ghost use Rattle.fc_answers.specs.Table.{IsRising, IsRowOf, pairs_by};
 ghost use Rattle.fc_answers.specs.inner.Table.{at_no_cost, inside};
 ghost use Rattle.fc_search.specs.Problem.{task_of_problem};
-ghost use Rattle.fc_search.specs.inner.Stored.{costs_of};
+ghost use Rattle.fc_search.specs.inner.Stored.{costs_inside, costs_of};
 
 use crate::position_searches::Search;
 use fc_answers::{Row, Table};
@@ -59,8 +59,7 @@ impl<F: Frontier + Drop, G: Game + Drop> Search<F, G> {
         requires sound { IsSound (task_of_problem self.now.problem) self.now.store }
         requires within { number < length self.now.store.stored }
         requires few { number < MOST_GREAT_BUDGET }
-        ensures row { inside (guide_of self.now.problem.method.bound) n (take (number + 1) (costs_of self.now.problem.start self.now.store))
-            ≡ inside (guide_of self.now.problem.method.bound) n (take number (costs_of self.now.problem.start self.now.store)) ++ pairs_by self.now.problem.start (option_to_list result) }
+        ensures row { costs_inside self.now n (number + 1) ≡ costs_inside self.now n number ++ pairs_by self.now.problem.start (option_to_list result) }
         ensures coded { IfSome result (IsRowOf self.now.problem.start) }
     {
         let (position, code, mark) = self.position_at(number);

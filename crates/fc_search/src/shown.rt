@@ -7,7 +7,7 @@ ghost use Rattle.fc_best_first.specs.Kept.{IsSound};
 ghost use Rattle.fc_best_first.specs.Search.{reply_of};
 ghost use Rattle.fc_search.specs.Need.{NeedsMore};
 ghost use Rattle.fc_search.specs.Problem.{task_of_problem};
-ghost use Rattle.fc_search.specs.Shown.{capped, BacksShown, HasFound, HasShown, IsFloorAt, IsFloorBut};
+ghost use Rattle.fc_search.specs.Shown.{number_within, BacksShown, HasFound, HasShown, IsFloorAt, IsFloorBut};
 
 use crate::position_searches::Search;
 use fc_answers::{MoveList, Table};
@@ -130,7 +130,7 @@ impl<F: Frontier + Drop, G: Game + Drop> Search<F, G> {
 
     // The number, but the limit where there is one that is lower.
     fn capped(&self, most: u32) -> u32
-        ensures value { result ≡ capped self.now.problem.limit most }
+        ensures value { result ≡ number_within self.now.problem.limit most }
     {
         match self.search.limit() {
             Some(limit) => most.min(limit),

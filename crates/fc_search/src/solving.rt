@@ -1,13 +1,12 @@
 //! Searches that run to their end.
 
-ghost use Rattle.std.specs.Prelude.{◌≡◌, ◌≤◌, List, IfOk, IfErr, OnOk, MatchResult};
+ghost use Rattle.std.specs.Prelude.{◌≡◌, ◌≤◌, IfOk, IfErr, OnOk};
 ghost use Rattle.fc_position.specs.Position.{Fits};
 ghost use Rattle.fc_best_first.specs.Limits.{IsBudget};
 ghost use Rattle.fc_best_first.specs.Search.{reply_of};
-ghost use Rattle.fc_search.specs.declared.listeners.Progress.{Progress};
 ghost use Rattle.fc_search.specs.Problem.{problem_below, problem_of, shortest_from};
 ghost use Rattle.fc_search.specs.Search.{Answers, IsOfStatus, IsOneOfThree, IsRefused, IsVerdict, IsRunToEnd, HasRun};
-ghost use Rattle.fc_search.specs.Watch.{HearsAll, HearsFar, IsHeardAtMost, IsHeardOn, IsHeardToEnd, TellFloors};
+ghost use Rattle.fc_search.specs.Watch.{HearsSearch, HearsToVerdict};
 
 use crate::listeners::Listener;
 use crate::position_searches::Search;
@@ -35,9 +34,7 @@ pub fn solve_by<G: Game + Drop, L: Listener>(
     requires fits { Fits question.now.game.cells position.now }
     ensures answers { IfOk result (Answers (problem_of question.now position.now)) }
     ensures ran { IfOk result (λ answer. IsRunToEnd (problem_of question.now position.now) answer.verdict) }
-    ensures heard { (heard : List Progress) × HearsAll (HearsFar L.hears) listener.old heard listener.new
-        × MatchResult result (λ answer. IsHeardToEnd (problem_of question.now position.now) heard answer.verdict)
-        (λ refused. IsHeardAtMost (problem_of question.now position.now) heard) }
+    ensures heard { HearsToVerdict L.hears (problem_of question.now position.now) result (λ answer. answer.verdict) listener.old listener.new }
 {
     solve_with::<EitherFrontier, G, L>(alloc, question, position, listener)
 }
@@ -55,9 +52,7 @@ pub fn decide_by<G: Game + Drop, L: Listener>(
     requires fits { Fits question.now.game.cells position.now }
     ensures told { IfOk result (IsVerdict (problem_of question.now position.now)) }
     ensures ran { IfOk result (IsRunToEnd (problem_of question.now position.now)) }
-    ensures heard { (heard : List Progress) × HearsAll (HearsFar L.hears) listener.old heard listener.new
-        × MatchResult result (IsHeardToEnd (problem_of question.now position.now) heard)
-        (λ refused. IsHeardAtMost (problem_of question.now position.now) heard) }
+    ensures heard { HearsToVerdict L.hears (problem_of question.now position.now) result (λ verdict. verdict) listener.old listener.new }
 {
     decide_with::<EitherFrontier, G, L>(alloc, question, position, listener)
 }
@@ -78,10 +73,7 @@ pub fn ended_below<F: Frontier + Drop, G: Game + Drop, L: Listener>(
     ensures problem { IfOk result (λ search. search.problem ≡ problem_below question.now position.now limit) }
     ensures ran { IfOk result (λ search. HasRun (problem_below question.now position.now limit) search.store search.status) }
     ensures done { IfOk result (λ search. reply_of search.status ≡ Ok Step.Done) }
-    ensures heard { (heard : List Progress) × HearsAll (HearsFar L.hears) listener.old heard listener.new
-        × TellFloors question.now.game position.now heard
-        × MatchResult result (IsHeardOn (problem_below question.now position.now limit) heard)
-        (λ refused. IsHeardAtMost (problem_below question.now position.now limit) heard) }
+    ensures heard { HearsSearch L.hears (problem_below question.now position.now limit) result listener.old listener.new }
 {
     let mut search = Search::below(alloc, question, position, limit)?;
     watch(&mut search, listener)?;
@@ -99,9 +91,7 @@ fn solve_with<F: Frontier + Drop, G: Game + Drop, L: Listener>(
     requires fits { Fits question.now.game.cells position.now }
     ensures answers { IfOk result (Answers (problem_of question.now position.now)) }
     ensures ran { IfOk result (λ answer. IsRunToEnd (problem_of question.now position.now) answer.verdict) }
-    ensures heard { (heard : List Progress) × HearsAll (HearsFar L.hears) listener.old heard listener.new
-        × MatchResult result (λ answer. IsHeardToEnd (problem_of question.now position.now) heard answer.verdict)
-        (λ refused. IsHeardAtMost (problem_of question.now position.now) heard) }
+    ensures heard { HearsToVerdict L.hears (problem_of question.now position.now) result (λ answer. answer.verdict) listener.old listener.new }
 {
     let search: Search<F, G> = ended_below(alloc, question, position, None, listener)?;
     answer_of(&search)
@@ -130,9 +120,7 @@ fn decide_with<F: Frontier + Drop, G: Game + Drop, L: Listener>(
     requires fits { Fits question.now.game.cells position.now }
     ensures told { IfOk result (IsVerdict (problem_of question.now position.now)) }
     ensures ran { IfOk result (IsRunToEnd (problem_of question.now position.now)) }
-    ensures heard { (heard : List Progress) × HearsAll (HearsFar L.hears) listener.old heard listener.new
-        × MatchResult result (IsHeardToEnd (problem_of question.now position.now) heard)
-        (λ refused. IsHeardAtMost (problem_of question.now position.now) heard) }
+    ensures heard { HearsToVerdict L.hears (problem_of question.now position.now) result (λ verdict. verdict) listener.old listener.new }
 {
     let search: Search<F, G> = ended_below(alloc, question, position, None, listener)?;
     verdict_of(&search)

@@ -21,7 +21,7 @@ use Rattle.fc_bound.proofs.KindLemmas.{bounds_lower}
 use Rattle.fc_bound.proofs.RingHeld.{shown_under}
 use Rattle.fc_bound.proofs.RingLaws.{mates_show}
 use Rattle.fc_best_first.specs.declared.spaces.Child.{Child}
-use Rattle.fc_best_first.specs.Graph.{Reached}
+use Rattle.fc_best_first.specs.Graph.{IsReached}
 use Rattle.fc_best_first.specs.Turn.{AreChildren}
 use Rattle.fc_codes.specs.State.{IsCodeOf}
 use Rattle.fc_codes.specs.Spelled.{board_of_code}
@@ -29,7 +29,7 @@ use Rattle.fc_classes.specs.Namings.{IsNaming, IsCodeIn, by_codes}
 use Rattle.fc_classes.specs.Classes.{SettlesTo}
 use Rattle.fc_classes.proofs.NamingLemmas.{codes_name, named_settled}
 use Rattle.fc_classes.proofs.PathLemmas.{reached_of_positions}
-use Rattle.fc_space.specs.Children.{Frame, frame_of, IsChildOf, IsSettledChild, AreChildrenBy, Left, StandsAt}
+use Rattle.fc_space.specs.Children.{Frame, frame_of, IsChildOf, IsSettledChild, AreChildrenBy, ChildrenLeft, StandsAt}
 use Rattle.fc_space.specs.inner.Children.{AreAllowed, classes_in}
 
 -- a game's position that the codes are seen from
@@ -41,7 +41,7 @@ naming_of : (w : Frame) → IsFrame w → IsNaming (by_codes w.start) w.game w.s
 naming_of w f = codes_name w.game w.start f.sound f.fits
 
 -- a code that is reached spells a position of the game, which is settled
-pub reached_code : (w : Frame) (x : List ℕ) (d : ℕ) → IsFrame w → Reached (classes_in w) x d
+pub reached_code : (w : Frame) (x : List ℕ) (d : ℕ) → IsFrame w → IsReached (classes_in w) x d
     → IsCodeIn w.start w.game x × Settles w.game w.rule (board_of_code w.start x) 0 (board_of_code w.start x)
 reached_code w x d f reached =
     reached_of_positions (by_codes w.start) w.kind w.game w.rule w.start x d (naming_of w f) f.fits reached
@@ -196,7 +196,7 @@ start_alone w child f settled x d starts =
     (sym once.0, omega (arith, once.1))
 
 -- a walk stands at the same codes where it differs by the moves alone that are left
-pub stands_same : {G : Type 0} (rules : G → GameRules) (old new : Left G) (last : Option Move) (y : List ℕ)
+pub stands_same : {G : Type 0} (rules : G → GameRules) (old new : ChildrenLeft G) (last : Option Move) (y : List ℕ)
     → (new.game ≡ old.game) × (new.rule ≡ old.rule) × (new.kind ≡ old.kind) × (new.start ≡ old.start)
     × (new.position ≡ old.position)
     → StandsAt (frame_of (rules new.game) new.rule new.kind new.start) new.position last y
@@ -209,7 +209,7 @@ stands_same rules old new last y (game, rule, kind, start, position) at =
     (subst (λ v. StandsAt (frame_of (rules new.game) new.rule new.kind new.start) v last y) position at))))
 
 -- what is left of the children stays where the walk differs by the move alone that came last
-pub children_same : {G : Type 0} (rules : G → GameRules) (old new : Left G)
+pub children_same : {G : Type 0} (rules : G → GameRules) (old new : ChildrenLeft G)
     → (new.game ≡ old.game) × (new.rule ≡ old.rule) × (new.kind ≡ old.kind) × (new.start ≡ old.start)
     × (new.position ≡ old.position) × (new.moves ≡ old.moves)
     → (children : List (Child (List ℕ)))

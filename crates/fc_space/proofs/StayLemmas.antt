@@ -5,7 +5,7 @@ use Rattle.std.proofs.lemmas.Bool.{cases_eq}
 use Rattle.std.proofs.lemmas.List.{get_or-set_other}
 use Rattle.fc_cards.specs.declared.places.Place.{Place}
 use Rattle.fc_cards.specs.declared.places.Place.TheVariants.{Column, Cell, Home}
-use Rattle.fc_position.specs.Board.{Board, column, playable, lifted, placed, last_of, front_of, IsNext}
+use Rattle.fc_position.specs.Board.{Board, column, playable, board_without, board_with, last_of, front_of, IsNext}
 use Rattle.fc_position.proofs.BoardLemmas.{homes-lifted}
 use Rattle.fc_moves.specs.declared.steps.Move.{Move}
 use Rattle.fc_moves.specs.GameRules.{GameRules}
@@ -34,7 +34,7 @@ places Home (Cell j) = inr (λ e. cc e)
 places Home Home = inl refl
 
 -- a lift and a put leave the playable cards of the other places
-playable-lifted : (b : Board) (from p : Place) → p ≢ from → playable (lifted b from) p ≡ playable b p
+playable-lifted : (b : Board) (from p : Place) → p ≢ from → playable (board_without b from) p ≡ playable b p
 playable-lifted b (Column i) (Column j) ne = ap last_of (get_or-set_other b.columns i j (front_of (column b i)) [] (λ e. ne (ap (λ (n : ℕ). Column n) e)))
 playable-lifted b (Column i) (Cell j) ne = refl
 playable-lifted b (Column i) Home ne = refl
@@ -43,7 +43,7 @@ playable-lifted b (Cell i) (Cell j) ne = get_or-set_other b.cells i j None None 
 playable-lifted b (Cell i) Home ne = refl
 playable-lifted b Home p ne = refl
 
-playable-placed : (b : Board) (u : ℕ) (to p : Place) → p ≢ to → playable (placed b u to) p ≡ playable b p
+playable-placed : (b : Board) (u : ℕ) (to p : Place) → p ≢ to → playable (board_with b u to) p ≡ playable b p
 playable-placed b u (Column i) (Column j) ne = ap last_of (get_or-set_other b.columns i j (column b i ++ u ∷ []) [] (λ e. ne (ap (λ (n : ℕ). Column n) e)))
 playable-placed b u (Column i) (Cell j) ne = refl
 playable-placed b u (Column i) Home ne = refl
@@ -55,7 +55,7 @@ playable-placed b u Home (Cell j) ne = refl
 playable-placed b u Home Home ne = refl
 
 -- a move to a column or a cell leaves the counts
-homes_kept : (b : Board) (from : Place) (u : ℕ) (to : Place) → to ≢ Home → (placed (lifted b from) u to).homes ≡ b.homes
+homes_kept : (b : Board) (from : Place) (u : ℕ) (to : Place) → to ≢ Home → (board_with (board_without b from) u to).homes ≡ b.homes
 homes_kept b from u (Column j) ne = homes-lifted b from
 homes_kept b from u (Cell j) ne = homes-lifted b from
 homes_kept b from u Home ne = absurd (ne refl)
@@ -70,7 +70,7 @@ others_stay rule g b c m step not_home none other d apart there goes =
     (λ e. let same : d ≡ u = let x = sym there ∙ ap (playable c) e ∙ (taken_back g b c m step not_home).there in cc in
     none m.from u step.playable (subst (GoesHome rule g b.homes) same before))
     (λ ne. none other d
-    (sym (playable-lifted b m.from other apart) ∙ sym (playable-placed (lifted b m.from) u m.to other ne)
+    (sym (playable-lifted b m.from other apart) ∙ sym (playable-placed (board_without b m.from) u m.to other ne)
     ∙ sym (ap (λ x. playable x other) step.after) ∙ there) before)
     (places other m.to)
 
@@ -92,14 +92,14 @@ goes_next (suc (suc more)) g homes c goes = free_next g homes c goes
 
 -- where the card beneath the one that moves isn't next, it doesn't go home after the move
 pub beneath_stays : (rule : ℕ) (g : GameRules) (b c : Board) (m : Move) (t : Bool) (step : Step g b m c) → m.to ≢ Home
-    → ((d : ℕ) → playable (lifted b m.from) m.from ≡ Some d → IsNext b.homes d → IsTrue t) → t ≡ false
+    → ((d : ℕ) → playable (board_without b m.from) m.from ≡ Some d → IsNext b.homes d → IsTrue t) → t ≡ false
     → (d : ℕ) × (playable c m.from ≡ Some d) × GoesHome rule g c.homes d → ⊥
 beneath_stays rule g b c m t step not_home next fails (d, there, goes) =
     let u = step.card in
     let counts : c.homes ≡ b.homes = ap (λ (x : Board). x.homes) step.after ∙ homes_kept b m.from u m.to not_home in
     let before : GoesHome rule g b.homes d = subst (λ h. GoesHome rule g h d) counts goes in
-    let beneath : playable (lifted b m.from) m.from ≡ Some d =
-    sym (playable-placed (lifted b m.from) u m.to m.from (apart m.from m.to step.joins))
+    let beneath : playable (board_without b m.from) m.from ≡ Some d =
+    sym (playable-placed (board_without b m.from) u m.to m.from (apart m.from m.to step.joins))
     ∙ sym (ap (λ x. playable x m.from) step.after) ∙ there in
     cc (sym fails ∙ next d beneath (goes_next rule g b.homes d before))
 

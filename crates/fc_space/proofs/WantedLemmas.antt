@@ -8,7 +8,7 @@ use Rattle.fc_cards.specs.Card.{rank, suit}
 use Rattle.fc_cards.specs.declared.places.Place.{Place}
 use Rattle.fc_cards.specs.declared.places.Place.TheVariants.{Column, Cell, Home}
 use Rattle.fc_cards.proofs.EachRank.{by_suit}
-use Rattle.fc_position.specs.Board.{Board, IsNext, cell, column, front_of, last_of, lifted, playable}
+use Rattle.fc_position.specs.Board.{Board, IsNext, cell, column, front_of, last_of, board_without, playable}
 use Rattle.fc_position.proofs.BoardLemmas.{cell_there, column_there}
 use Rattle.fc_bound.specs.Bound.{is_held_back}
 use Rattle.fc_bound.specs.Rows.{AreBits, LiesOnOne}
@@ -68,7 +68,7 @@ next_bits homes p q r t clubs diamonds hearts spades c =
     )
 
 -- a playable card with one of these beneath it is a column's last one that lies on it
-lies_on : (b : Board) (from : Place) (cards u c : ℕ) → playable b from ≡ Some u → playable (lifted b from) from ≡ Some c
+lies_on : (b : Board) (from : Place) (cards u c : ℕ) → playable b from ≡ Some u → playable (board_without b from) from ≡ Some c
     → bit_at cards c ≡ 1 → LiesOnOne b.columns cards u
 lies_on b (Column i) cards u c last under set = record {
   number = i;
@@ -78,7 +78,7 @@ lies_on b (Column i) cards u c last under set = record {
   set = set;
 }
 lies_on b (Cell i) cards u c full under set =
-    let none : cell (lifted b (Cell i)) i ≡ None = get_or-set_same b.cells i None None (cell_there b i u full) in
+    let none : cell (board_without b (Cell i)) i ≡ None = get_or-set_same b.cells i None None (cell_there b i u full) in
     absurd (cc (under, none))
 lies_on b Home cards u c there under set = absurd (cc there)
 

@@ -1,5 +1,5 @@
 -- The children of a class: where the steps of its position lead, once settled.
-use Rattle.std.specs.Prelude.{◌≡◌, ℕ, ◌+◌, List, [], ◌∷◌, Option, None, Some}
+use Rattle.std.specs.Prelude.{◌≡◌, ℕ, ◌+◌, List, [], ◌∷◌, reverse, Option, None, Some}
 use Rattle.fc_position.specs.Board.{Board}
 use Rattle.fc_moves.specs.declared.steps.Move.{Move}
 use Rattle.fc_moves.specs.GameRules.{GameRules}
@@ -8,6 +8,7 @@ use Rattle.fc_codes.specs.State.{IsCodeOf}
 use Rattle.fc_home.specs.Settles.{Settles}
 use Rattle.fc_bound.specs.declared.kinds.BoundKind.{BoundKind}
 use Rattle.fc_best_first.specs.declared.spaces.Child.{Child}
+use Rattle.fc_space.specs.declared.class_space.ClassRules.{ClassRules}
 use Rattle.fc_space.specs.declared.child_walks.Standing.{Standing}
 use Rattle.fc_space.specs.declared.child_walks.Standing.TheVariants.{Here, Shifted, Settled}
 
@@ -22,6 +23,10 @@ pub record Frame : Type 0 where
 -- the same of its four parts
 abbrev pub frame_of : GameRules → ℕ → BoundKind → Board → Frame
 frame_of g rule kind start = record { game = g; rule = rule; kind = kind; start = start }
+
+-- the same of the rules of a search, and the position at the start
+abbrev pub frame_by : {G : Type 0} → (G → GameRules) → ClassRules G → Board → Frame
+frame_by game rules start = frame_of (game rules.game) rules.rule rules.kind start
 
 -- the child is of what the board settles to, at a cost of so many moves and those of settling
 abbrev pub IsSettledChild : Frame → Board → ℕ → Child (List ℕ) → Type 0
@@ -45,7 +50,7 @@ last_move (Settled m code count) = Some m
 
 -- what is left of the children of a position of a game, seen from the position at the start: the moves that lead to them, the
 -- next one last; and the move that led to the child that came last, if one did
-pub record Left (G : Type 0) : Type 0 where
+pub record ChildrenLeft (G : Type 0) : Type 0 where
   pub game : G
   pub rule : ℕ
   pub kind : BoundKind
@@ -54,9 +59,13 @@ pub record Left (G : Type 0) : Type 0 where
   pub moves : List Move
   pub last : Option Move
 
+-- the classes that what is left is of
+abbrev pub frame_left : {G : Type 0} → (G → GameRules) → ChildrenLeft G → Frame
+frame_left game left = frame_of (game left.game) left.rule left.kind left.start
+
 -- what is left is of these classes
-abbrev pub IsWalkIn : {G : Type 0} → (G → GameRules) → Frame → Left G → Type 0
-IsWalkIn rules w left = frame_of (rules left.game) left.rule left.kind left.start ≡ w
+abbrev pub IsWalkIn : {G : Type 0} → (G → GameRules) → Frame → ChildrenLeft G → Type 0
+IsWalkIn game w left = frame_left game left ≡ w
 
 -- the children are those to which the moves lead, one after the other
 abbrev pub AreChildrenBy : Frame → Board → List Move → List (Child (List ℕ)) → Type 0
@@ -64,3 +73,7 @@ AreChildrenBy w b [] [] = Unit {0}
 AreChildrenBy w b (m ∷ moves) (child ∷ children) = IsChildOf w b m child × AreChildrenBy w b moves children
 AreChildrenBy w b [] (child ∷ children) = ⊥
 AreChildrenBy w b (m ∷ moves) [] = ⊥
+
+-- the children are those that are left
+abbrev pub AreLeft : {G : Type 0} → (G → GameRules) → ChildrenLeft G → List (Child (List ℕ)) → Type 0
+AreLeft game left children = AreChildrenBy (frame_left game left) left.position (reverse left.moves) children

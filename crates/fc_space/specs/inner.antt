@@ -4,4 +4,5 @@ pub mod Codes
 pub mod Idle
 pub mod Lookups
 pub mod Standing
+pub mod Visits
 pub mod Ways

@@ -1,7 +1,7 @@
 //! A walk over the children of a class: where it steps next, and what is shown of where it stands.
 
-ghost use Rattle.std.specs.Prelude.{◌≡◌, ◌≢◌, ◌+◌, ◌≤◌, ℕ, true, List, Some, None, IfSome, IsSome};
-ghost use Rattle.fc_position.specs.Board.{Board, lifted};
+ghost use Rattle.std.specs.Prelude.{◌≡◌, ◌≢◌, ◌+◌, ℕ, true, Some, None, IfSome, IsSome};
+ghost use Rattle.fc_position.specs.Board.{Board, board_without};
 ghost use Rattle.fc_position.specs.Position.{IsPosition};
 ghost use Rattle.fc_cards.specs.declared.places.Place.TheVariants.{Home};
 ghost use Rattle.fc_moves.specs.declared.steps.Move.{Move};
@@ -12,7 +12,8 @@ ghost use Rattle.fc_bound.specs.declared.kinds.BoundKind.TheVariants.{Clearing, 
 ghost use Rattle.fc_bound.specs.Kinds.{IsShown};
 ghost use Rattle.fc_bound.specs.Landings.{IsLanding};
 ghost use Rattle.fc_bound.specs.Rows.{IsTableOf};
-ghost use Rattle.fc_space.specs.Children.{frame_of, StandsAt};
+ghost use Rattle.fc_space.specs.Children.{frame_left, StandsAt};
+ghost use Rattle.fc_space.specs.inner.Children.{IsNoMore, IsShownAfter, OfLastChild};
 ghost use Rattle.fc_space.specs.inner.Lookups.{IsLookupOf};
 
 use crate::class_space::{ClassRules, child_by_copy};
@@ -54,25 +55,15 @@ pub struct Children<G: Game + Drop> {
 }
 
 impl<G: Game + Drop> Model for Children<G> {
-    ghost use Rattle.std.specs.Prelude.{◌≡◌, true};
-    ghost use Rattle.fc_moves.specs.GameRules.{IsPositionOf};
-    ghost use Rattle.fc_home.specs.Settles.{NoneGoesHome};
-    ghost use Rattle.fc_bound.specs.declared.kinds.BoundKind.TheVariants.{Clearing};
-    ghost use Rattle.fc_bound.specs.Kinds.{IsShown};
-    ghost use Rattle.fc_codes.specs.State.{IsCodeOf};
-    ghost use Rattle.fc_space.specs.Children.{Left, frame_of, last_move};
-    ghost use Rattle.fc_space.specs.inner.Children.{AreAllowed};
-    ghost use Rattle.fc_space.specs.inner.Lookups.{IsLookupOf};
-    ghost use Rattle.fc_space.specs.inner.Standing.{IsKept, IsStanding};
+    ghost use Rattle.fc_space.specs.Children.{ChildrenLeft, frame_by, last_move};
 
-    ghost Value = { Left G };
+    ghost Value = { ChildrenLeft G };
+
+    ghost use Rattle.fc_space.specs.inner.Visits.{IsVisit};
 
     ghost view = { λ s. record { game = s.rules.game; rule = s.rules.rule; kind = s.rules.kind; start = s.layout; position = s.position; moves = s.left.items; last = last_move s.standing } };
 
-    ghost invariant = { λ s. IsPositionOf (G.game s.rules.game) s.position × AreAllowed (G.game s.rules.game) s.position s.left.items
-        × IsShown s.rules.kind s.position s.shown.number s.shown.note × NoneGoesHome s.rules.rule (G.game s.rules.game) s.position
-        × IsCodeOf s.layout s.position s.code × IsStanding (frame_of (G.game s.rules.game) s.rules.rule s.rules.kind s.layout) s.position s.standing
-        × (IsLookupOf s.layout s.position s.lookup × (s.rules.kind ≡ Clearing → s.lookup.is_laid ≡ true)) × IsKept s.rules.kind s.position s.kept };
+    ghost invariant = { λ s. IsVisit (frame_by G.game s.rules s.layout) s };
 }
 
 impl<G: Game + Drop> Children<G> {
@@ -99,7 +90,7 @@ impl<G: Game + Drop> Children<G> {
     // The code of the class at which the walk stands.
     #[inline(always)]
     pub(crate) fn key(&self) -> Code
-        ensures at { StandsAt (frame_of (G.game self.now.game) self.now.rule self.now.kind self.now.start) self.now.position self.now.last result }
+        ensures at { StandsAt (frame_left G.game self.now) self.now.position self.now.last result }
     {
         match self.standing {
             Standing::Here => self.code,
@@ -111,9 +102,7 @@ impl<G: Game + Drop> Children<G> {
     // A number that is plain to see: of where the walk stands something is shown that is no less.
     #[inline(always)]
     pub(crate) fn least(&self) -> u8
-        ensures least { (m : Move) (z q : Board) (count : ℕ) → self.now.last ≡ Some m → Step (G.game self.now.game) self.now.position m z
-            → Settles (G.game self.now.game) self.now.rule z count q
-            → (number : ℕ) × (note : ℕ) × IsShown self.now.kind q number note × (result ≤ number) }
+        ensures least { OfLastChild G.game self.now (λ q. IsNoMore self.now.kind q result) }
         ensures none { self.now.last ≡ None → result ≡ 0 }
         ensures fits { IsPositionOf (G.game self.now.game) self.now.position }
     {
@@ -136,8 +125,7 @@ impl<G: Game + Drop> Children<G> {
 
     // What is shown of where the walk stands, looked for no further where it is more than this already. The walk is as it was.
     pub(crate) fn shown_there(&mut self, most: u8) -> Shown
-        ensures shown { (m : Move) (z q : Board) (count : ℕ) → self.old.last ≡ Some m → Step (G.game self.old.game) self.old.position m z
-            → Settles (G.game self.old.game) self.old.rule z count q → IsShown self.old.kind q result.number result.note }
+        ensures shown { OfLastChild G.game self.old (λ q. IsShown self.old.kind q result.number result.note) }
         ensures here { self.old.last ≡ None → IsShown self.old.kind self.old.position result.number result.note }
         ensures fits { IsPositionOf (G.game self.old.game) self.old.position }
         ensures same { self.new ≡ self.old }
@@ -159,7 +147,7 @@ impl<G: Game + Drop> Children<G> {
     fn shown_where(&mut self, landing: Landing, most: u8) -> Shown
         requires landing { IsLanding self.old.position landing }
         requires allowed { Allows (G.game self.old.game) self.old.position landing.m }
-        ensures shown { (z : Board) → Step (G.game self.old.game) self.old.position landing.m z → IsShown self.old.kind z result.number result.note }
+        ensures shown { IsShownAfter G.game self.old landing.m result }
         ensures same { self.new ≡ self.old }
     {
         match self.rules.kind {
@@ -176,8 +164,7 @@ impl<G: Game + Drop> Children<G> {
     fn known_where(&self, landing: &Landing) -> Option<Shown>
         requires landing { IsLanding self.now.position landing.now }
         requires kind { self.now.kind ≡ Clearing }
-        ensures known { IfSome result (λ known. (z : Board) → Step (G.game self.now.game) self.now.position landing.now.m z
-            → IsShown self.now.kind z known.number known.note) }
+        ensures known { IfSome result (IsShownAfter G.game self.now landing.now.m) }
     {
         self.rules
             .kind
@@ -187,7 +174,7 @@ impl<G: Game + Drop> Children<G> {
     // What is shown of where a move leads, before cards go home. The walk is as it was.
     fn shown_after(&mut self, m: Move, most: u8) -> Shown
         requires allowed { Allows (G.game self.old.game) self.old.position m }
-        ensures shown { (z : Board) → Step (G.game self.old.game) self.old.position m z → IsShown self.old.kind z result.number result.note }
+        ensures shown { IsShownAfter G.game self.old m result }
         ensures same { self.new ≡ self.old }
     {
         match self.rules.kind {
@@ -202,8 +189,7 @@ impl<G: Game + Drop> Children<G> {
     // The same where nothing more has to be looked for.
     #[inline(always)]
     fn known_after(&self, m: Move) -> Option<Shown>
-        ensures known { IfSome result (λ known. (z : Board) → Step (G.game self.now.game) self.now.position m z
-            → IsShown self.now.kind z known.number known.note) }
+        ensures known { IfSome result (IsShownAfter G.game self.now m) }
         ensures plain { self.now.kind ≡ Plain → Allows (G.game self.now.game) self.now.position m → IsSome result }
     {
         self.rules.kind.known_after(&self.position, m, self.shown)
@@ -213,7 +199,7 @@ impl<G: Game + Drop> Children<G> {
     fn shown_plainly(&self, m: Move) -> Shown
         requires allowed { Allows (G.game self.now.game) self.now.position m }
         requires kind { self.now.kind ≡ Plain }
-        ensures shown { (z : Board) → Step (G.game self.now.game) self.now.position m z → IsShown self.now.kind z result.number result.note }
+        ensures shown { IsShownAfter G.game self.now m result }
     {
         self.known_after(m).unwrap()
     }
@@ -222,7 +208,7 @@ impl<G: Game + Drop> Children<G> {
     fn sought(&mut self, m: Move, most: u8) -> Shown
         requires allowed { Allows (G.game self.old.game) self.old.position m }
         requires kind { self.old.kind ≡ Clearing }
-        ensures shown { (z : Board) → Step (G.game self.old.game) self.old.position m z → IsShown self.old.kind z result.number result.note }
+        ensures shown { IsShownAfter G.game self.old m result }
         ensures same { self.new ≡ self.old }
     {
         let kept = self.kept(m.from);
@@ -238,7 +224,7 @@ impl<G: Game + Drop> Children<G> {
     // What is shown of the position without the playable card of a place, where that was asked for last.
     #[inline(always)]
     fn known_kept(&self, from: Place) -> Option<Shown>
-        ensures kept { IfSome result (λ kept. IsShown self.now.kind (lifted self.now.position from) kept.number kept.note) }
+        ensures kept { IfSome result (λ kept. IsShown self.now.kind (board_without self.now.position from) kept.number kept.note) }
     {
         match &self.kept {
             Some((place, kept)) if *place == from => Some(*kept),
@@ -249,7 +235,7 @@ impl<G: Game + Drop> Children<G> {
     // What is shown of the position without the playable card of a place. Looking for it once a place is enough. The walk is as it was.
     fn kept(&mut self, from: Place) -> Shown
         requires kind { self.old.kind ≡ Clearing }
-        ensures kept { IsShown self.old.kind (lifted self.old.position from) result.number result.note }
+        ensures kept { IsShown self.old.kind (board_without self.old.position from) result.number result.note }
         ensures fits { IsPositionOf (G.game self.old.game) self.old.position }
         ensures same { self.new ≡ self.old }
     {
@@ -270,8 +256,8 @@ impl<G: Game + Drop> Children<G> {
         requires allowed { Allows (G.game self.old.game) self.old.position m }
         requires away { m.to ≢ Home }
         requires kind { self.old.kind ≡ Clearing }
-        requires kept { IsShown self.old.kind (lifted self.old.position m.from) kept.number kept.note }
-        ensures shown { (z : Board) → Step (G.game self.old.game) self.old.position m z → IsShown self.old.kind z result.number result.note }
+        requires kept { IsShown self.old.kind (board_without self.old.position m.from) kept.number kept.note }
+        ensures shown { IsShownAfter G.game self.old m result }
         ensures same { self.new ≡ self.old }
     {
         self.lookup.table.lift(&self.position, m.from);
@@ -319,8 +305,7 @@ fn least_where(
     requires lookup { (s : Board) × IsLookupOf s position.now lookup.now }
     requires landing { IsLanding position.now landing.now }
     requires shown { IsShown kind position.now shown.number shown.note }
-    ensures least { (g : GameRules) (z : Board) → Step g position.now landing.now.m z
-        → (number : ℕ) × (note : ℕ) × IsShown kind z number note × (result ≤ number) }
+    ensures least { (g : GameRules) (z : Board) → Step g position.now landing.now.m z → IsNoMore kind z result }
 {
     if lookup.is_laid {
         kind.least_by(position, &lookup.table, landing, shown)

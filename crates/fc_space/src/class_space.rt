@@ -1,4 +1,4 @@
-ghost use Rattle.std.specs.Prelude.{◌≡◌, ◌≢◌, ◌↔◌, ◌+◌, ◌++◌, ◌≤◌, ℕ, false, true, Contains, IfOk, IfSome, IsTrue, List, [], None, length, reverse};
+ghost use Rattle.std.specs.Prelude.{◌≡◌, ◌+◌, ◌≤◌, ℕ, false, true, IfOk, IfSome, List, None, length};
 ghost use Rattle.fc_position.specs.Board.{Board};
 ghost use Rattle.fc_position.specs.Position.{Fits, IsPosition};
 ghost use Rattle.fc_moves.specs.GameRules.{IsPositionOf};
@@ -6,15 +6,15 @@ ghost use Rattle.fc_moves.specs.Step.{Allows, Step};
 ghost use Rattle.fc_codes.specs.State.{AreMoved, IsCodeOf};
 ghost use Rattle.fc_codes.specs.Spelled.{board_of_code};
 ghost use Rattle.fc_bound.specs.declared.kinds.BoundKind.TheVariants.{Clearing};
-ghost use Rattle.fc_bound.specs.Kinds.{IsShown, low_of};
-ghost use Rattle.fc_best_first.specs.Graph.{Reached};
-ghost use Rattle.fc_best_first.specs.Turn.{AreChildren};
+ghost use Rattle.fc_bound.specs.Kinds.{IsShown};
+ghost use Rattle.fc_best_first.specs.Graph.{IsReached};
+ghost use Rattle.fc_best_first.specs.Turn.{AreChildrenBut};
 ghost use Rattle.fc_best_first.specs.declared.spaces.Child.{Child};
 ghost use Rattle.fc_classes.specs.Namings.{IsCodeIn, by_codes};
 ghost use Rattle.fc_classes.specs.Classes.{classes};
 ghost use Rattle.fc_classes.proofs.NamingLemmas.{codes_name};
 ghost use Rattle.fc_classes.proofs.TableLemmas.{lawful};
-ghost use Rattle.fc_space.specs.Children.{frame_of, IsWalkIn, IsSettledChild, IsChildOf, AreChildrenBy, StandsAt};
+ghost use Rattle.fc_space.specs.Children.{frame_by, frame_left, AreLeft, IsWalkIn, IsSettledChild, IsChildOf, StandsAt};
 ghost use Rattle.fc_space.specs.inner.Children.{classes_in};
 ghost use Rattle.fc_space.specs.inner.Codes.{IsCodeAfter};
 
@@ -98,8 +98,8 @@ impl<G: Game + Drop> Positions<G> {
 
     // A walk with no child left, which stands at a class that was reached.
     fn walk(&self, code: &Code) -> Children<G>
-        requires reached { (d : ℕ) × Reached (classes_in (frame_of (G.game self.now.rules.game) self.now.rules.rule self.now.rules.kind self.now.start)) code.now d }
-        ensures owned { IsWalkIn G.game (frame_of (G.game self.now.rules.game) self.now.rules.rule self.now.rules.kind self.now.start) result }
+        requires reached { (d : ℕ) × IsReached (classes_in (frame_by G.game self.now.rules self.now.start)) code.now d }
+        ensures owned { IsWalkIn G.game (frame_by G.game self.now.rules self.now.start) result }
         ensures last { result.last ≡ None }
         ensures code { IsCodeOf result.start result.position code.now }
     {
@@ -126,14 +126,12 @@ impl<G: Game + Drop> Positions<G> {
     // Begins a walk of this space anew at a class that was reached, of which this is shown, and tells whether it leaves children out, as
     // it may at a first visit.
     fn set_out(&self, code: &Code, shown: Shown, is_first: bool, walk: &mut Children<G>) -> bool
-        requires owned { IsWalkIn G.game (frame_of (G.game self.now.rules.game) self.now.rules.rule self.now.rules.kind self.now.start) walk.old }
-        requires reached { (d : ℕ) × Reached (classes_in (frame_of (G.game self.now.rules.game) self.now.rules.rule self.now.rules.kind self.now.start)) code.now d }
+        requires owned { IsWalkIn G.game (frame_by G.game self.now.rules self.now.start) walk.old }
+        requires reached { (d : ℕ) × IsReached (classes_in (frame_by G.game self.now.rules self.now.start)) code.now d }
         requires shown { IsShown self.now.rules.kind (board_of_code self.now.start code.now) shown.number shown.note }
-        ensures owned { IsWalkIn G.game (frame_of (G.game self.now.rules.game) self.now.rules.rule self.now.rules.kind self.now.start) walk.new }
-        ensures children { (children : List (Child (List ℕ))) → AreChildrenBy (frame_of (G.game walk.new.game) walk.new.rule walk.new.kind walk.new.start) walk.new.position (reverse walk.new.moves) children
-            → (others : List (Child (List ℕ))) × AreChildren (classes_in (frame_of (G.game self.now.rules.game) self.now.rules.rule self.now.rules.kind self.now.start)) code.now (others ++ children)
-            × ((child : Child (List ℕ)) → Contains others child → shown.number ≤ low_of self.now.rules.kind (board_of_code self.now.start child.key))
-            × (IsTrue result ↔ (others ≢ [])) }
+        ensures owned { IsWalkIn G.game (frame_by G.game self.now.rules self.now.start) walk.new }
+        ensures children { (children : List (Child (List ℕ))) → AreLeft G.game walk.new children
+            → AreChildrenBut (classes_in (frame_by G.game self.now.rules self.now.start)) code.now shown.number result children }
         ensures later { is_first ≡ false → result ≡ false }
     {
         let moved = self.read(code, &mut walk.position);
@@ -169,7 +167,7 @@ fn looks_up(kind: BoundKind, is_first: bool) -> bool
 // What the position with this code settles to, as a code, and in how many moves.
 #[inline(always)]
 fn settled<G: Game + Drop>(rules: &ClassRules<G>, position: &mut Position, code: Code) -> (Code, u8)
-    ensures settled { (s : Board) → IsCodeOf s position.old code → IsSettledChild (frame_of (G.game rules.now.game) rules.now.rule rules.now.kind s) position.old 0 (record { key = result.0; cost = result.1 }) }
+    ensures settled { (s : Board) → IsCodeOf s position.old code → IsSettledChild (frame_by G.game rules.now s) position.old 0 (record { key = result.0; cost = result.1 }) }
     ensures few { result.1 ≤ 52 }
 {
     let (settling, code) = settle_coded(&rules.game, rules.rule, position, code);
@@ -185,7 +183,7 @@ pub(crate) fn child_by_copy<G: Game + Drop>(
 ) -> (Code, u8)
     requires allowed { Allows (G.game rules.now.game) position.now m }
     ensures child { (s : Board) → IsCodeAfter s (G.game rules.now.game) position.now m code
-        → IsChildOf (frame_of (G.game rules.now.game) rules.now.rule rules.now.kind s) position.now m (record { key = result.0; cost = 1 + result.1 }) }
+        → IsChildOf (frame_by G.game rules.now s) position.now m (record { key = result.0; cost = 1 + result.1 }) }
     ensures few { result.1 ≤ 52 }
 {
     let mut next = position.copy();
@@ -198,13 +196,13 @@ impl<G: Game + Drop> Space<Code> for Positions<G> {
 
     type Walk = Children<G>;
 
-    ghost rest = { λ w children. AreChildrenBy (frame_of (G.game w.game) w.rule w.kind w.start) w.position (reverse w.moves) children };
+    ghost rest = { λ w children. AreLeft G.game w children };
 
     ghost left = { λ w. length w.moves };
 
-    ghost owns = { λ s w. IsWalkIn G.game (frame_of (G.game s.rules.game) s.rules.rule s.rules.kind s.start) w };
+    ghost owns = { λ s w. IsWalkIn G.game (frame_by G.game s.rules s.start) w };
 
-    ghost at = { λ w. StandsAt (frame_of (G.game w.game) w.rule w.kind w.start) w.position w.last };
+    ghost at = { λ w. StandsAt (frame_left G.game w) w.position w.last };
 
     fn start(&self, _alloc: Global) -> Result<(Child<Code>, Children<G>), AllocError> {
         let mut start = self.start.copy();

@@ -2,7 +2,7 @@
 
 ghost use Rattle.std.specs.Prelude.{◌≡◌, ◌≢◌, ℕ, IfSome, IsTrue, Some};
 ghost use Rattle.fc_cards.specs.declared.places.Place.TheVariants.{Home};
-ghost use Rattle.fc_position.specs.Board.{IsNext, front_of, last_of, lifted, playable};
+ghost use Rattle.fc_position.specs.Board.{IsNext, front_of, last_of, board_without, playable};
 ghost use Rattle.fc_position.specs.Position.{IsPosition};
 ghost use Rattle.fc_moves.specs.Step.{Allows};
 ghost use Rattle.fc_home.specs.Settles.{NoneGoesHome};
@@ -21,7 +21,7 @@ use fc_position::Position;
 fn frees_next(position: &Position, from: Place) -> bool
     requires whole { IsPosition position.now }
     requires card { (u : ℕ) × (playable position.now from ≡ Some u) }
-    ensures next { (c : ℕ) → playable (lifted position.now from) from ≡ Some c → IsNext position.now.homes c → IsTrue result }
+    ensures next { (c : ℕ) → playable (board_without position.now from) from ≡ Some c → IsNext position.now.homes c → IsTrue result }
 {
     match from {
         Place::Column(i) => match beneath_last(position.column(i)) {

@@ -6,7 +6,7 @@ ghost use Rattle.fc_moves.specs.GameRules.{IsPositionOf};
 ghost use Rattle.fc_moves.specs.Run.{Run};
 ghost use Rattle.fc_moves.specs.Step.{Allows};
 ghost use Rattle.fc_codes.specs.State.{IsCodeOf};
-ghost use Rattle.fc_space.specs.Children.{frame_of};
+ghost use Rattle.fc_space.specs.Children.{frame_by};
 ghost use Rattle.fc_space.specs.Ways.{LeadsWithin};
 ghost use Rattle.fc_space.specs.inner.Ways.{LeadsOn};
 
@@ -41,7 +41,7 @@ pub fn follow<G: Game + Drop>(
 ) -> Result<(), AllocError>
     requires fits { IsPositionOf (G.game space.now.rules.game) position.old }
     requires from { IsCodeOf space.now.start position.old from.now }
-    requires leads { (m : Move) × LeadsWithin (frame_of (G.game space.now.rules.game) space.now.rules.rule space.now.rules.kind space.now.start) position.old to.now most m }
+    requires leads { (m : Move) × LeadsWithin (frame_by G.game space.now.rules space.now.start) position.old to.now most m }
     ensures led { OnOk result ((more : List Move) × (made.new.items ≡ made.old.items ++ more) × Run (G.game space.now.rules.game) position.old more position.new × (length more ≤ most)) }
     ensures there { OnOk result (IsCodeOf space.now.start position.new to.now) }
     ensures fits { OnOk result (IsPositionOf (G.game space.now.rules.game) position.new) }
@@ -63,8 +63,8 @@ fn way_on<G: Game + Drop>(
     most: usize,
 ) -> Option<WayOn>
     requires from { IsCodeOf space.now.start position.now from.now }
-    ensures first { MatchOption result ((m : Move) → LeadsWithin (frame_of (G.game space.now.rules.game) space.now.rules.rule space.now.rules.kind space.now.start) position.now to.now most m → ⊥)
-        (LeadsOn (frame_of (G.game space.now.rules.game) space.now.rules.rule space.now.rules.kind space.now.start) position.now to.now most) }
+    ensures first { MatchOption result ((m : Move) → LeadsWithin (frame_by G.game space.now.rules space.now.start) position.now to.now most m → ⊥)
+        (LeadsOn (frame_by G.game space.now.rules space.now.start) position.now to.now most) }
 {
     for m in moves(&space.rules.game, position).as_slice() {
         let way = way_by(space, position, from, *m, to, most);
@@ -87,8 +87,8 @@ fn way_by<G: Game + Drop>(
 ) -> Option<WayOn>
     requires from { IsCodeOf space.now.start position.now from.now }
     requires allowed { Allows (G.game space.now.rules.game) position.now m }
-    ensures value { MatchOption result (LeadsWithin (frame_of (G.game space.now.rules.game) space.now.rules.rule space.now.rules.kind space.now.start) position.now to.now most m → ⊥)
-        (LeadsOn (frame_of (G.game space.now.rules.game) space.now.rules.rule space.now.rules.kind space.now.start) position.now to.now most) }
+    ensures value { MatchOption result (LeadsWithin (frame_by G.game space.now.rules space.now.start) position.now to.now most m → ⊥)
+        (LeadsOn (frame_by G.game space.now.rules space.now.start) position.now to.now most) }
 {
     let after = space.layout.moved(from, position, m);
     let mut next = position.copy();

@@ -4,10 +4,10 @@ use Rattle.fc_position.specs.Board.{Board}
 use Rattle.fc_moves.proofs.StepLemmas.{step_keeps}
 use Rattle.fc_home.proofs.SettleLemmas.{settles_keep}
 use Rattle.fc_tables.specs.Laws.{GreaterBoundsCloseToo}
-use Rattle.fc_tables.specs.Table.{Table, Covered}
+use Rattle.fc_tables.specs.Table.{Table, IsCoveredBelow}
 
 -- what is covered by a bound is covered by one that is no less there
-covered-more : (low high : Board → ℕ) (n : ℕ) (T : Table) (x : Board) (d : ℕ) → low x ≤ high x → Covered low n T x d → Covered high n T x d
+covered-more : (low high : Board → ℕ) (n : ℕ) (T : Table) (x : Board) (d : ℕ) → low x ≤ high x → IsCoveredBelow low n T x d → IsCoveredBelow high n T x d
 covered-more low high n T x d more covered = ⊎_elim (λ far. inl (omega (arith, far, more))) (λ lists. inr lists) covered
 
 pub greater_close : GreaterBoundsCloseToo

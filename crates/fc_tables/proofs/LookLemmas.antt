@@ -13,14 +13,14 @@ use Rattle.fc_home.proofs.MateLemmas.{class_settle}
 use Rattle.fc_home.proofs.EveryLemmas.{every_settles}
 use Rattle.fc_home.proofs.WayLemmas.{settles_once}
 use Rattle.fc_tables.specs.Laws.{OneBoardOfAClassIsEnough, OneBoardIsEnoughWithoutBound, ClosedBelowIsSeen, ClosedIsSeen}
-use Rattle.fc_tables.specs.Table.{Table, ListsClass, Covered}
+use Rattle.fc_tables.specs.Table.{Table, ListsClass, IsCoveredBelow}
 use Rattle.fc_bound.specs.LowerBound.{IsLowerBound}
 
 -- what is listed, or covered, is so for its whole class
 class-listed : (T : Table) (x y : Board) → SameClass x y → ListsClass T x → ListsClass T y
 class-listed T x y s (e, listed, same) = (e, listed, class-trans y x e.0 (class-sym x y s) same)
 
-class-covered : (low : Board → ℕ) (n : ℕ) (T : Table) (x y : Board) (d : ℕ) → IsLowerBound low → SameClass x y → Covered low n T x d → Covered low n T y d
+class-covered : (low : Board → ℕ) (n : ℕ) (T : Table) (x y : Board) (d : ℕ) → IsLowerBound low → SameClass x y → IsCoveredBelow low n T x d → IsCoveredBelow low n T y d
 class-covered low n T x y d lower s covered =
     ⊎_elim (λ far. let equal = lower.alike x y s in inl (omega (arith, far, equal)))
     (λ (e, listed, same, cost). inr (e, listed, class-trans y x e.0 (class-sym x y s) same, cost)) covered
@@ -63,8 +63,8 @@ shown P g rule x y mates px py s all m u step =
 
 pub one_enough : OneBoardOfAClassIsEnough
 one_enough low g rule n T x y d lower px py s = (
-  looked (λ k z. Covered low n T z (d + 1 + k)) g rule x y (λ k b c same. class-covered low n T b c (d + 1 + k) lower same) px py s,
-  shown (λ k z. Covered low n T z (d + 1 + k)) g rule x y (λ k b c same. class-covered low n T b c (d + 1 + k) lower same) px py s,
+  looked (λ k z. IsCoveredBelow low n T z (d + 1 + k)) g rule x y (λ k b c same. class-covered low n T b c (d + 1 + k) lower same) px py s,
+  shown (λ k z. IsCoveredBelow low n T z (d + 1 + k)) g rule x y (λ k b c same. class-covered low n T b c (d + 1 + k) lower same) px py s,
 )
 
 pub one_enough_listed : OneBoardIsEnoughWithoutBound
@@ -79,7 +79,7 @@ seen_below low g rule p n T lower pp fitting = (
     not_won = seen.not_won;
     start = λ q k settles.
         let way = seen.start in
-        settled-mate (λ j z. Covered low n T z j) g rule p p way.0 q way.1 k (λ j b c same. class-covered low n T b c j lower same)
+        settled-mate (λ j z. IsCoveredBelow low n T z j) g rule p p way.0 q way.1 k (λ j b c same. class-covered low n T b c j lower same)
         pp.position (class-refl p) way.2 way.3 settles;
     steps = λ e x listed px same inside.
         let pe = fitting e x listed px same in

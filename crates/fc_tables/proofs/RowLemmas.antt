@@ -4,13 +4,13 @@ use Rattle.std.specs.Prelude.{Contains}
 use Rattle.std.proofs.lemmas.Bool.{cases_lt}
 use Rattle.fc_position.specs.Board.{Board}
 use Rattle.fc_tables.specs.Laws.{RowsInsideAreClosedBelow, ClosedInsideAllIsClosed, CostsOfClosedTablesAreFree, NoEmptyTableIsClosed}
-use Rattle.fc_tables.specs.Table.{Table, ListsClass, Covered}
+use Rattle.fc_tables.specs.Table.{Table, ListsClass, IsCoveredBelow}
 use Rattle.fc_bound.specs.LowerBound.{IsLowerBound}
 use Rattle.fc_home.proofs.EveryLemmas.{every_settles}
 
 -- what a table covers is covered by its pairs whose cost and bound are below n
 rows-covered : (low : Board → ℕ) (n : ℕ) (S T : Table) (x : Board) (d : ℕ) → IsLowerBound low
-    → ((e : Board × ℕ) → Contains S e ↔ (Contains T e × (e.1 + low e.0 < n))) → Covered low n T x d → Covered low n S x d
+    → ((e : Board × ℕ) → Contains S e ↔ (Contains T e × (e.1 + low e.0 < n))) → IsCoveredBelow low n T x d → IsCoveredBelow low n S x d
 rows-covered low n S T x d lower rows covered =
     ⊎_elim (λ far. inl far)
     (λ (e, listed, same, cost).
@@ -27,7 +27,7 @@ rows_inside low g rule p n S T lower closed rows = record {
 }
 
 -- what is covered below a number that its bound doesn't reach is listed
-near-listed : (low : Board → ℕ) (n : ℕ) (T : Table) (x : Board) (d : ℕ) → d + low x < n → Covered low n T x d → ListsClass T x
+near-listed : (low : Board → ℕ) (n : ℕ) (T : Table) (x : Board) (d : ℕ) → d + low x < n → IsCoveredBelow low n T x d → ListsClass T x
 near-listed low n T x d near covered =
     ⊎_elim (λ far. absurd (omega (arith, near, far))) (λ (e, listed, same, cost). (e, listed, same)) covered
 

@@ -9,7 +9,7 @@ use Rattle.fc_home.specs.Settles.{Settles}
 use Rattle.fc_home.proofs.LossLemmas.{settle_loses_nothing}
 use Rattle.fc_home.proofs.SettleLemmas.{settles_keep}
 use Rattle.fc_tables.specs.Laws.{ClosedInsideLeavesNoShorterList, ClosedBelowIsClosedInside, ClosedBelowLeavesNoShorterList, ClosedLeavesNoList, ClosedByAnySettlingLeavesNoList}
-use Rattle.fc_tables.specs.Table.{Table, ListsClass, Lists, Covered, IsClosedInside, SettlesTo, SettlesEach, IsLossless, IsClosedBy}
+use Rattle.fc_tables.specs.Table.{Table, ListsClass, Lists, IsCoveredBelow, IsClosedInside, SettlesTo, SettlesEach, IsLossless, IsClosedBy}
 use Rattle.fc_bound.specs.LowerBound.{IsLowerBound}
 use Rattle.fc_home.proofs.EveryLemmas.{every_settles}
 
@@ -24,13 +24,13 @@ Long g n T most = (x : Board) (d : ℕ) → IsPositionOf g x → Lists T x d →
 
 -- nor through a covered board
 covered_long : (low : Board → ℕ) (g : GameRules) (n : ℕ) (T : Table) (x : Board) (d most : ℕ) → IsLowerBound low → Long g n T most → IsPositionOf g x
-    → Covered low n T x d → WinsWithin g x most → n ≤ d + most
+    → IsCoveredBelow low n T x d → WinsWithin g x most → n ≤ d + most
 covered_long low g n T x d most lower long p covered wins =
     ⊎_elim (λ far. let need = within_bound low g x most lower p wins in omega (arith, far, need)) (λ lists. long x d p lists wins) covered
 
 -- nor through a board that settles to a covered one
 settled_long : (low : Board → ℕ) (g : GameRules) (rule : ℕ) (n : ℕ) (T : Table) (x : Board) (d most : ℕ) → IsLowerBound low → ((less : ℕ) → less ≤ most → Long g n T less)
-    → IsPositionOf g x → ((q : Board) (k : ℕ) → Settles g rule x k q → Covered low n T q (d + k)) → WinsWithin g x most → n ≤ d + most
+    → IsPositionOf g x → ((q : Board) (k : ℕ) → Settles g rule x k q → IsCoveredBelow low n T q (d + k)) → WinsWithin g x most → n ≤ d + most
 settled_long low g rule n T x d most lower long p covered wins =
     let way = every_settles g rule x in
     let k = way.0 in
@@ -66,7 +66,7 @@ listed_long low g rule p n T (suc fuel) lower closed most fuelled x d px (e, lis
 pub inside_long : ClosedInsideLeavesNoShorterList
 inside_long low g rule p n T ms lower px closed wins =
     let long = settled_long low g rule n T p 0 (length ms) lower (λ less le. listed_long low g rule p n T (length ms) lower closed less le) px
-    (λ q k settles. subst (Covered low n T q) (sym (zero-add k)) (closed.start q k settles)) (ms, omega arith, wins) in
+    (λ q k settles. subst (IsCoveredBelow low n T q) (sym (zero-add k)) (closed.start q k settles)) (ms, omega arith, wins) in
     omega (arith, long)
 
 -- what is closed below n is closed inside n

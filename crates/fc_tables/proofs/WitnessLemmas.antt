@@ -7,7 +7,7 @@ use Rattle.std.proofs.lemmas.List.Sorted.{sum_by-IsPermutation}
 use Rattle.fc_cards.specs.Card.{rank, suit}
 use Rattle.fc_cards.specs.declared.places.Place.{Place}
 use Rattle.fc_cards.specs.declared.places.Place.TheVariants.{Column, Cell, Home}
-use Rattle.fc_position.specs.Board.{Board, IsNext, playable, places, placed, lifted, last_of}
+use Rattle.fc_position.specs.Board.{Board, IsNext, playable, places, board_with, board_without, last_of}
 use Rattle.fc_position.specs.Position.{IsPosition, IsWon}
 use Rattle.fc_moves.specs.declared.steps.Move.{Move}
 use Rattle.fc_moves.specs.inner.GameLaws.{Contains-cases, Contains-first}
@@ -168,7 +168,7 @@ full_position = record {
 full_wins : (g : GameRules) → Opens g 51 → CanWin g full_cells
 full_wins g opens =
     let aside : Move = record { from = Column 0; to = Column 1 } in
-    let a = placed (lifted full_cells (Column 0)) 51 (Column 1) in
+    let a = board_with (board_without full_cells (Column 0)) 51 (Column 1) in
     let b = sent_home a (Column 0) 31 in
     let c = sent_home b (Cell 0) 35 in
     let d = sent_home c (Cell 1) 39 in
@@ -207,7 +207,7 @@ ace_settled rule g Home c there goes = absurd (cc there)
 ace_wins : (g : GameRules) → 0 < g.cells → CanWin g second_ace
 ace_wins g some_cell =
     let aside : Move = record { from = Column 0; to = Cell 0 } in
-    let a = placed (lifted second_ace (Column 0)) 0 (Cell 0) in
+    let a = board_with (board_without second_ace (Column 0)) 0 (Cell 0) in
     let won : CanWin g (sent_home a (Column 0) 51) = ([], (sent_home a (Column 0) 51, refl, refl)) in
     let step : Step g second_ace aside a =
     record { card = 0; playable = refl; joins = tt; takes = (some_cell, omega arith, refl); after = refl } in

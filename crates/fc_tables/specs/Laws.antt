@@ -7,7 +7,7 @@ use Rattle.fc_moves.specs.GameRules.{GameRules, Opens, IsPositionOf}
 use Rattle.fc_moves.specs.Run.{Wins, CannotWin}
 use Rattle.fc_moves.specs.Class.{SameClass}
 use Rattle.fc_bound.specs.LowerBound.{IsLowerBound}
-use Rattle.fc_tables.specs.Table.{Table, Covered, StepsCovered, StepsListed, ClassesCovered, ClassesListed, ListsFitting, IsClosedBelow, IsClosedInside, IsClosed, IsSeenClosedBelow, IsSeenClosed, SettlesEach, IsLossless, IsClosedBy}
+use Rattle.fc_tables.specs.Table.{Table, IsCoveredBelow, StepsCovered, StepsListed, ClassesCovered, ClassesListed, ListsFitting, IsClosedBelow, IsClosedInside, IsClosed, IsSeenClosedBelow, IsSeenClosed, SettlesEach, IsLossless, IsClosedBy}
 
 -- a table that is closed below n by a bound is so by each bound that is nowhere less of a position
 abbrev pub GreaterBoundsCloseToo : Type 0
@@ -67,7 +67,7 @@ ClosedBelowIsClosedInside = (low : Board → ℕ) (g : GameRules) (rule : ℕ) (
 -- once, exactly where the steps of the other are covered
 abbrev pub OneBoardOfAClassIsEnough : Type 0
 OneBoardOfAClassIsEnough = (low : Board → ℕ) (g : GameRules) (rule : ℕ) (n : ℕ) (T : Table) (x y : Board) (d : ℕ) → IsLowerBound low → IsPositionOf g x → IsPositionOf g y
-    → SameClass x y → ClassesCovered (Covered low n T) g rule x d ↔ StepsCovered (Covered low n T) g rule y d
+    → SameClass x y → ClassesCovered (IsCoveredBelow low n T) g rule x d ↔ StepsCovered (IsCoveredBelow low n T) g rule y d
 
 -- the same of being listed
 abbrev pub OneBoardIsEnoughWithoutBound : Type 0

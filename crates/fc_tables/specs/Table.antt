@@ -7,7 +7,7 @@ use Rattle.fc_moves.specs.GameRules.{GameRules, IsPositionOf}
 use Rattle.fc_moves.specs.Run.{WinsWithin}
 use Rattle.fc_moves.specs.Step.{Step}
 use Rattle.fc_moves.specs.Class.{SameClass}
-use Rattle.fc_canonical.specs.Spelled.{spelled}
+use Rattle.fc_canonical.specs.Spelled.{board_of_bytes}
 use Rattle.fc_home.specs.Settles.{Settles}
 
 -- a table is a list of pairs: a board, which stands for its class, and a cost, in moves from the start; what is said here
@@ -24,8 +24,8 @@ abbrev pub Lists : Table → Board → ℕ → Type 0
 Lists T x d = (e : Board × ℕ) × Contains T e × SameClass x e.0 × (e.1 ≤ d)
 
 -- a board that d moves lead to is covered: its bound leaves no list of fewer than n moves through it, or it is listed
-abbrev pub Covered : (Board → ℕ) → ℕ → Table → Board → ℕ → Type 0
-Covered low n T x d = (n ≤ d + low x) ⊎ Lists T x d
+abbrev pub IsCoveredBelow : (Board → ℕ) → ℕ → Table → Board → ℕ → Type 0
+IsCoveredBelow low n T x d = (n ≤ d + low x) ⊎ Lists T x d
 
 -- of a board that d moves lead to: where each of its steps leads, once settled, is covered in this sense
 abbrev pub StepsCovered : (Board → ℕ → Type 0) → GameRules → ℕ → Board → ℕ → Type 0
@@ -40,16 +40,16 @@ StepsListed g rule T x = (m : Move) (y z : Board) (k : ℕ) → Step g x m y →
 -- and its bound reach n, the steps are covered
 pub record IsClosedBelow (low : Board → ℕ) (g : GameRules) (rule : ℕ) (p : Board) (n : ℕ) (T : Table) : Type 0 where
   pub not_won : (e : Board × ℕ) → Contains T e → IsWon e.0 → ⊥
-  pub start : (q : Board) (k : ℕ) → Settles g rule p k q → Covered low n T q k
+  pub start : (q : Board) (k : ℕ) → Settles g rule p k q → IsCoveredBelow low n T q k
   pub steps : (e : Board × ℕ) (x : Board) → Contains T e → IsPositionOf g x → SameClass x e.0 → e.1 + low x < n
-      → StepsCovered (Covered low n T) g rule x e.1
+      → StepsCovered (IsCoveredBelow low n T) g rule x e.1
 
 -- the same while a search runs: a won class may be listed where its cost and its bound reach n
 pub record IsClosedInside (low : Board → ℕ) (g : GameRules) (rule : ℕ) (p : Board) (n : ℕ) (T : Table) : Type 0 where
   pub not_won : (e : Board × ℕ) → Contains T e → e.1 + low e.0 < n → IsWon e.0 → ⊥
-  pub start : (q : Board) (k : ℕ) → Settles g rule p k q → Covered low n T q k
+  pub start : (q : Board) (k : ℕ) → Settles g rule p k q → IsCoveredBelow low n T q k
   pub steps : (e : Board × ℕ) (x : Board) → Contains T e → IsPositionOf g x → SameClass x e.0 → e.1 + low x < n
-      → StepsCovered (Covered low n T) g rule x e.1
+      → StepsCovered (IsCoveredBelow low n T) g rule x e.1
 
 -- no listed board is won; the start, once settled, is listed; and so is all that steps from positions of listed classes
 -- lead to, once settled: the costs don't matter
@@ -98,8 +98,8 @@ ClassesListed g rule T x = (m : Move) (y : Board) → Step g x m y
 -- what is looked at to see that a table is closed below n: the listed boards alone, and one step to each class
 pub record IsSeenClosedBelow (low : Board → ℕ) (g : GameRules) (rule : ℕ) (p : Board) (n : ℕ) (T : Table) : Type 0 where
   pub not_won : (e : Board × ℕ) → Contains T e → IsWon e.0 → ⊥
-  pub start : (q : Board) × (k : ℕ) × Settles g rule p k q × Covered low n T q k
-  pub steps : (e : Board × ℕ) → Contains T e → IsPositionOf g e.0 → e.1 + low e.0 < n → ClassesCovered (Covered low n T) g rule e.0 e.1
+  pub start : (q : Board) × (k : ℕ) × Settles g rule p k q × IsCoveredBelow low n T q k
+  pub steps : (e : Board × ℕ) → Contains T e → IsPositionOf g e.0 → e.1 + low e.0 < n → ClassesCovered (IsCoveredBelow low n T) g rule e.0 e.1
 
 -- what is looked at to see that a table is closed
 pub record IsSeenClosed (g : GameRules) (rule : ℕ) (p : Board) (T : Table) : Type 0 where
@@ -109,4 +109,4 @@ pub record IsSeenClosed (g : GameRules) (rule : ℕ) (p : Board) (T : Table) : T
 
 -- the boards that the keys of a table spell, at the same costs
 abbrev pub as_boards : List (List ℕ × ℕ) → Table
-as_boards table = map (λ e. (spelled e.0, e.1)) table
+as_boards table = map (λ e. (board_of_bytes e.0, e.1)) table

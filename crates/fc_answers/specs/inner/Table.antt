@@ -2,11 +2,11 @@
 use Rattle.std.specs.Prelude.{ℕ, ◌+◌, ◌<◌, ◌≤◌, List, length, map, nat_lt, slice_index}
 use Rattle.std.specs.List.{filter}
 use Rattle.fc_position.specs.Board.{Board}
-use Rattle.fc_canonical.specs.Spelled.{spelled}
+use Rattle.fc_canonical.specs.Spelled.{board_of_bytes}
 
 -- the rows whose cost and bound are below n, by a lower bound
 abbrev pub inside : (Board → ℕ) → ℕ → List (List ℕ × ℕ) → List (List ℕ × ℕ)
-inside low n rows = filter (λ e. nat_lt (e.1 + low (spelled e.0)) n) rows
+inside low n rows = filter (λ e. nat_lt (e.1 + low (board_of_bytes e.0)) n) rows
 
 -- the same keys, each at no cost
 abbrev pub at_no_cost : List (List ℕ × ℕ) → List (List ℕ × ℕ)

@@ -12,7 +12,7 @@ use Rattle.fc_answers.specs.declared.answers.TheConstants.{MOST_MOVES}
 use Rattle.fc_best.specs.declared.attempts.Attempt.{Attempt}
 use Rattle.fc_best.specs.declared.attempts.Shown.{Shown}
 use Rattle.fc_best.specs.Best.{HasGivenUp, IsFloor, IsOfQuestion}
-use Rattle.fc_methods.specs.Method.{Asked}
+use Rattle.fc_methods.specs.Method.{QuestionData}
 use Rattle.fc_search.specs.Need.{NeedsMore}
 use Rattle.fc_search.specs.Search.{State}
 use Rattle.fc_search.specs.Shown.{BacksShown, HasFound, HasShown}
@@ -28,14 +28,14 @@ abbrev pub IsShown : GameRules → Board → Option ℕ → Type 0
 IsShown g b shown = MatchOption shown (CannotWin g b) (IsFloor g b)
 
 -- the table, by the question's home rule and bound, shows it
-pub record IsTableOf (q : Asked) (b : Board) (shown : Option ℕ) (table : Listing) : Type 0 where
+pub record IsTableOf (q : QuestionData) (b : Board) (shown : Option ℕ) (table : Listing) : Type 0 where
   pub rule : table.rule ≡ q.method.rule
   pub bound : table.bound ≡ q.method.bound
   pub few : length table.rows ≤ q.method.strategy.budget
   pub backed : MatchOption shown (IsBackedWhole q.game b table) (λ floor. IsBackedBelow q.game b floor table)
 
 -- what a search of the question showed is so, and its table, where one was made, shows it
-abbrev pub IsEnd : Asked → Board → Shown → Type 0
+abbrev pub IsEnd : QuestionData → Board → Shown → Type 0
 IsEnd q b end = IsShown q.game b end.floor × IfSome end.table (IsTableOf q b end.floor)
 
 -- the floor that was shown, if one was
@@ -63,7 +63,7 @@ abbrev pub IsFoundIn : GameRules → Board → State → List Move → Type 0
 IsFoundIn g b ended moves = IsGoodList g b moves × HasFound ended (Some moves)
 
 -- what the search showed is so
-abbrev pub IsShownIn : Asked → Board → State → Shown → Type 0
+abbrev pub IsShownIn : QuestionData → Board → State → Shown → Type 0
 IsShownIn q b ended end = IsEnd q b end × HasShown ended end.floor
 
 -- what a search shows where it stands, and its table, where one was made, shows it
@@ -75,7 +75,7 @@ pub record IsShownAt (s : State) (end : Shown) : Type 0 where
 
 -- what a search of the question by this kind of bound from the board, below this limit if there is one, has found and shown is so; a
 -- floor is by the question's bound; and where it neither found a list nor gave up nor had a limit, it shows that none wins
-pub record IsAttempt (q : Asked) (kind : BoundKind) (b : Board) (limit : Option ℕ) (attempt : Attempt) : Type 0 where
+pub record IsAttempt (q : QuestionData) (kind : BoundKind) (b : Board) (limit : Option ℕ) (attempt : Attempt) : Type 0 where
   pub ended : State
   pub asked : IsOfQuestion q b ended
   pub by_kind : ended.problem.method.bound ≡ kind

@@ -8,22 +8,23 @@ use Rattle.fc_bound.specs.declared.kinds.BoundKind.TheVariants.{Plain}
 use Rattle.fc_answers.specs.Table.{Listing}
 use Rattle.fc_best_first.specs.Limits.{Ratio}
 use Rattle.fc_best_first.specs.declared.strategies.Expansion.TheVariants.{Full}
+use Rattle.fc_best.specs.declared.attempts.Attempt.{Attempt}
 use Rattle.fc_best.specs.declared.attempts.Shown.{Shown}
 use Rattle.fc_search.specs.declared.listeners.Progress.{Progress}
 use Rattle.fc_best.specs.declared.standings.Standing.{Standing}
 use Rattle.fc_best.specs.Best.{HaveGivenUp, IsFloorOf, IsListOf, IsLostBy, IsOfQuestion, IsOnTheWay, stored_by}
-use Rattle.fc_best.specs.inner.Attempt.{IsEnd, IsGoodList, ShowsNone}
-use Rattle.fc_methods.specs.Method.{Asked}
+use Rattle.fc_best.specs.inner.Attempt.{IsAttempt, IsEnd, IsGoodList, ShowsNone}
+use Rattle.fc_methods.specs.Method.{QuestionData}
 use Rattle.fc_methods.specs.declared.methods.Sought.TheVariants.{ByMethod}
 use Rattle.fc_search.specs.Search.{State}
 
 -- each of the searches gave up, and the greatest budget of theirs is told; or there were none, and nothing is shown
-abbrev pub AllGaveUp : Asked → Board → List State → Option Shown → Option ℕ → Type 0
+abbrev pub AllGaveUp : QuestionData → Board → List State → Option Shown → Option ℕ → Type 0
 AllGaveUp q b searches shown None = (searches ≡ []) × (shown ≡ None)
 AllGaveUp q b searches shown (Some told) = HaveGivenUp searches told × (told ≤ q.method.strategy.budget) × ReachesMore q.game b told
 
 -- what was shown rests on one of the searches: by the question's bound, where it is a floor
-abbrev pub IsShownBy : Asked → List State → Option ℕ → Type 0
+abbrev pub IsShownBy : QuestionData → List State → Option ℕ → Type 0
 IsShownBy q searches floor = MatchOption floor (IsLostBy searches) (IsFloorOf q searches)
 
 -- the number of moves from which on lists aren't wanted any more: as many as the list has, if there is one
@@ -38,7 +39,7 @@ IsLeastOf (Some end) n = IfSome end.floor (λ floor. n ≡ floor)
 
 -- how far the searches are is told so: the question's budget, the floor that is shown, and how many moves the list has, if they
 -- found one
-pub record IsToldWith (q : Asked) (list : Option (List Move)) (shown : Option Shown) (far : Progress) : Type 0 where
+pub record IsToldWith (q : QuestionData) (list : Option (List Move)) (shown : Option Shown) (far : Progress) : Type 0 where
   pub budget : far.budget ≡ q.method.strategy.budget
   pub least : IsLeastOf shown far.at_least
   pub shortest : far.shortest ≡ limit_of list
@@ -46,7 +47,7 @@ pub record IsToldWith (q : Asked) (list : Option (List Move)) (shown : Option Sh
 -- what these searches of the question from the board have found and shown is so, and others for shorter tails of their lists, and
 -- this is left of the budget; the list and what is shown rest on them; where they found no list, each gave up, or one showed that
 -- none wins; what is shown has a table, where that is wanted; and how far they are is told so
-pub record IsStanding (q : Asked) (b : Board) (searches tails : List State) (standing : Standing) : Type 0 where
+pub record IsStanding (q : QuestionData) (b : Board) (searches tails : List State) (standing : Standing) : Type 0 where
   pub asked : All (IsOfQuestion q b) searches
   pub middle : All (IsOnTheWay q b) tails
   pub spent : stored_by searches + stored_by tails + standing.left ≡ q.method.strategy.budget
@@ -57,7 +58,7 @@ pub record IsStanding (q : Asked) (b : Board) (searches tails : List State) (sta
   pub told : IsToldWith q standing.list standing.shown standing.far
 
 -- it is so of some searches
-abbrev pub Stands : Asked → Board → Standing → Type 0
+abbrev pub Stands : QuestionData → Board → Standing → Type 0
 Stands q b standing = (searches : List State) × (tails : List State) × IsStanding q b searches tails standing
 
 -- a list is one of two, and no longer than the old one, which it is where it has as many moves; it is missing only where both are
@@ -68,7 +69,7 @@ pub record IsShorter (new old list : Option (List Move)) : Type 0 where
   pub none : list ≡ None → (new ≡ None) × (old ≡ None)
 
 -- the question of one search with another weight, and with a share of its budget
-abbrev pub with_share : Asked → Ratio → ℕ → Asked
+abbrev pub with_share : QuestionData → Ratio → ℕ → QuestionData
 with_share q weight share = record {
   game = q.game;
   sought = ByMethod;
@@ -79,9 +80,14 @@ with_share q weight share = record {
   };
 }
 
+-- one more search of the question from the board, by this weight and share of the budget and this kind of bound, for a list shorter than
+-- the standing's, found and showed this
+abbrev pub IsNextAttempt : QuestionData → Ratio × ℕ → BoundKind → Board → Standing → Attempt → Type 0
+IsNextAttempt q part kind b standing attempt = IsAttempt (with_share q part.0 part.1) kind b (limit_of standing.list) attempt
+
 -- the question of one search by the plain bound and full expansion, with a weight and a share of its budget
-abbrev pub looked_with : Asked → Ratio → ℕ → Asked
-looked_with q weight share = record {
+abbrev pub look_with : QuestionData → Ratio → ℕ → QuestionData
+look_with q weight share = record {
   game = q.game;
   sought = ByMethod;
   method = record {
@@ -97,14 +103,14 @@ under kind None = None
 under kind (Some table) = Some (record { rule = table.rule; bound = kind; rows = table.rows })
 
 -- that none wins, where no floor is told, with its table under this kind of bound
-abbrev pub lost_with : BoundKind → Option ℕ → Option Listing → Option Shown
-lost_with kind None table = Some (record { floor = None; table = under kind table })
-lost_with kind (Some floor) table = None
+abbrev pub loss_with : BoundKind → Option ℕ → Option Listing → Option Shown
+loss_with kind None table = Some (record { floor = None; table = under kind table })
+loss_with kind (Some floor) table = None
 
 -- that none wins, with its table under this kind of bound; what else was shown isn't kept
-abbrev pub lost_by : BoundKind → Option Shown → Option Shown
-lost_by kind None = None
-lost_by kind (Some end) = lost_with kind end.floor end.table
+abbrev pub loss_by : BoundKind → Option Shown → Option Shown
+loss_by kind None = None
+loss_by kind (Some end) = loss_with kind end.floor end.table
 
 -- the new one, or the old one where there is no new one
 abbrev pub newest : {X : Type 0} → Option X → Option X → Option X

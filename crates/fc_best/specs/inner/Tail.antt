@@ -11,7 +11,7 @@ use Rattle.fc_best.specs.inner.Watch.{IsFurther}
 use Rattle.fc_best.specs.declared.standings.Standing.{Standing}
 use Rattle.fc_best.specs.inner.Standing.{with_share}
 use Rattle.fc_best_first.specs.Limits.{Ratio}
-use Rattle.fc_methods.specs.Method.{Asked}
+use Rattle.fc_methods.specs.Method.{QuestionData}
 use Rattle.fc_search.specs.Search.{State}
 use Rattle.fc_search.specs.Shown.{HasFound}
 
@@ -27,7 +27,7 @@ pub record HasTailOf (g : GameRules) (b : Board) (all : List Move) (ended : Stat
   pub found : HasFound ended (Some tail)
 
 -- a search of the question from a board that can be reached stored so many classes, and the list that it made of this one is good
-pub record IsTail (q : Asked) (b : Board) (all : List Move) (tail : Tail) : Type 0 where
+pub record IsTail (q : QuestionData) (b : Board) (all : List Move) (tail : Tail) : Type 0 where
   pub ended : State
   pub asked : IsOnTheWay q b ended
   pub list : IfSome tail.list (λ made. IsGoodList q.game b made × HasTailOf q.game b all ended made)
@@ -35,7 +35,7 @@ pub record IsTail (q : Asked) (b : Board) (all : List Move) (tail : Tail) : Type
   pub room : tail.stored ≤ q.method.strategy.budget
 
 -- it is one for the list of what is so far, by a weight and within a share of what is left but for one class
-pub record IsTailFor (q : Asked) (b : Board) (standing : Standing) (tail : Tail) : Type 0 where
+pub record IsTailFor (q : QuestionData) (b : Board) (standing : Standing) (tail : Tail) : Type 0 where
   pub all : List Move
   pub best : standing.list ≡ Some all
   pub weight : Ratio

@@ -3,11 +3,11 @@ use Rattle.std.specs.Prelude.{◌≡◌, ◌⊎◌, ℕ, ◌+◌, max, min, List
 use Rattle.fc_position.specs.Board.{Board}
 use Rattle.fc_moves.specs.declared.steps.Move.{Move}
 use Rattle.fc_best.specs.Watch.{IsNoWorse, IsSo, last_list}
-use Rattle.fc_search.specs.Watch.{Better, Far, Heard, HearsAll}
+use Rattle.fc_search.specs.Watch.{Better, Far, Report, HearsAll}
 use Rattle.fc_search.specs.declared.listeners.Progress.{Progress}
 use Rattle.fc_best.specs.declared.relays.Relay.{Relay}
 use Rattle.fc_best.specs.declared.standings.Standing.{Standing}
-use Rattle.fc_methods.specs.Method.{Asked}
+use Rattle.fc_methods.specs.Method.{QuestionData}
 
 -- before the first search nothing is told but the budget
 pub record IsFirst (most : ℕ) (far : Progress) : Type 0 where
@@ -51,12 +51,12 @@ pub record IsFurther (before far : Progress) : Type 0 where
   pub at_least : far.at_least ≡ before.at_least
 
 -- the same of what is heard: no list is
-abbrev pub IsFurtherTold : Progress → Heard → Type 0
+abbrev pub IsFurtherTold : Progress → Report → Type 0
 IsFurtherTold before (Far far) = IsFurther before far
 IsFurtherTold before (Better moves floor) = ⊥
 
 -- what is heard from the one on up to the other gets no worse
-abbrev pub Rises : Heard → List Heard → Heard → Type 0
+abbrev pub Rises : Report → List Report → Report → Type 0
 Rises first [] last = IsNoWorse first last
 Rises first (next ∷ later) last = IsNoWorse first next × Rises next later last
 
@@ -74,12 +74,12 @@ abbrev pub HasNoBetter : Progress → Standing → Type 0
 HasNoBetter before s = (s.list ≡ None) ⊎ ((s.far.shortest ≡ before.shortest) × (s.far.at_least ≡ before.at_least))
 
 -- what is heard from the one on up to the other is so of searches of the question from the board, and gets no worse
-abbrev pub IsSoUp : Asked → Board → Heard → List Heard → Heard → Type 0
+abbrev pub IsSoUp : QuestionData → Board → Report → List Report → Report → Type 0
 IsSoUp q b first heard last = All (IsSo q b) heard × Rises first heard last
 
-module _ {L : Type 0} (hears : L → Heard → L → Type 0) where
+module _ {L : Type 0} (hears : L → Report → L → Type 0) where
   -- who hears one search after others tells a listener how far all of them are; a list it tells as it is
-  abbrev pub Relays : Relay L → Heard → Relay L → Type 0
+  abbrev pub Relays : Relay L → Report → Relay L → Type 0
   Relays old (Far far) new = (new.listener.ghost_name ≡ old.listener.ghost_name) × (new.before ≡ old.before)
       × IsJoined old.before far new.last × hears old.listener.now (Far new.last) new.listener.now
   Relays old (Better moves floor) new = (new.listener.ghost_name ≡ old.listener.ghost_name) × (new.before ≡ old.before)
@@ -87,7 +87,7 @@ module _ {L : Type 0} (hears : L → Heard → L → Type 0) where
 
   -- a listener hears how one search after what was told goes on
   abbrev pub HearsFurther : Progress → L → L → Type 0
-  HearsFurther before old new = (heard : List Heard) × HearsAll hears old heard new × All (IsFurtherTold before) heard
+  HearsFurther before old new = (heard : List Report) × HearsAll hears old heard new × All (IsFurtherTold before) heard
 
   -- a listener hears the list with its floor, unless it has no better one than what was told before
   abbrev pub HearsList : Progress → Standing → L → L → Type 0
@@ -95,10 +95,10 @@ module _ {L : Type 0} (hears : L → Heard → L → Type 0) where
       ⊎ ((moves : List Move) × (s.list ≡ Some moves) × hears old (Better moves s.far.at_least) new)
 
   -- a listener hears what is so from where the searches stood so up to where they do, and the list last where it is another
-  abbrev pub HearsOn : Asked → Board → Standing → Standing → L → L → Type 0
-  HearsOn q b first last old new = (heard : List Heard) × HearsAll hears old heard new × IsSoUp q b (Far first.far) heard (Far last.far)
+  abbrev pub HearsOn : QuestionData → Board → Standing → Standing → L → L → Type 0
+  HearsOn q b first last old new = (heard : List Report) × HearsAll hears old heard new × IsSoUp q b (Far first.far) heard (Far last.far)
       × (last_list (list_in first) heard ≡ list_in last)
 
   -- the same up to where memory ended the searches
-  abbrev pub HearsSome : Asked → Board → Standing → L → L → Type 0
-  HearsSome q b first old new = (heard : List Heard) × (last : Heard) × HearsAll hears old heard new × IsSoUp q b (Far first.far) heard last
+  abbrev pub HearsSome : QuestionData → Board → Standing → L → L → Type 0
+  HearsSome q b first old new = (heard : List Report) × (last : Report) × HearsAll hears old heard new × IsSoUp q b (Far first.far) heard last

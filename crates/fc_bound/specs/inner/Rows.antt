@@ -47,8 +47,8 @@ abbrev pub AreLow : ℕ → List (List ℕ) → Type 0
 AreLow bits columns = (c : ℕ) → stands_among columns c ≡ true → bit_at bits c ≡ cond (not (waits columns (Some c))) 1 0
 
 -- whether columns that end with these cards are knotted
-abbrev pub Knotted : List (List ℕ) → ℕ → ℕ → Bool → Type 0
-Knotted columns u v so = (i j : ℕ) → last_of (slice_index_or columns i []) ≡ Some u → last_of (slice_index_or columns j []) ≡ Some v
+abbrev pub TellsKnot : List (List ℕ) → ℕ → ℕ → Bool → Type 0
+TellsKnot columns u v so = (i j : ℕ) → last_of (slice_index_or columns i []) ≡ Some u → last_of (slice_index_or columns j []) ≡ Some v
     → are_knotted (slice_index_or columns i []) (slice_index_or columns j []) ≡ so
 
 -- these cards are left of a position's columns, and these are the last ones

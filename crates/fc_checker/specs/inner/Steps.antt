@@ -1,11 +1,12 @@
 -- What is asked of where moves lead, once settled, and what all that is asked proves.
-use Rattle.std.specs.Prelude.{◌≡◌, ◌≢◌, ℕ, ◌+◌, List, length, Option, Some, IfSome}
+use Rattle.std.specs.Prelude.{◌≡◌, ◌≢◌, ◌↔◌, ℕ, ◌+◌, ◌≤◌, List, length, Option, Some, IfSome, MatchOption}
 use Rattle.fc_position.specs.Board.{Board}
 use Rattle.fc_moves.specs.declared.steps.Move.{Move}
 use Rattle.fc_moves.specs.GameRules.{GameRules}
 use Rattle.fc_moves.specs.Step.{Step}
 use Rattle.fc_bound.specs.Kinds.{guide_of}
 use Rattle.fc_home.specs.Settles.{Settles}
+use Rattle.fc_tables.specs.Table.{Lists, ListsClass, Table}
 use Rattle.fc_cert.specs.declared.claims.Claim.{Claim}
 use Rattle.fc_cert.specs.declared.claims.Claim.TheVariants as claim
 use Rattle.fc_cert.specs.declared.contents.Kind.{Kind}
@@ -15,6 +16,11 @@ use Rattle.fc_checker.specs.declared.faults.CheckFault.{CheckFault}
 use Rattle.fc_checker.specs.declared.faults.CheckFault.TheVariants.{Memory}
 use Rattle.fc_checker.specs.declared.record_steps.Near.{Near}
 use Rattle.fc_checker.specs.Check.{Holds, level, HasContent, HasStart, IsCheckFault, IsOfGame, MovesHold, RecordsHold, StartHolds}
+
+-- the cost is the least at which the table lists the class of the board; there is none where the class isn't listed
+abbrev pub IsListedCost : Table → Board → Option ℕ → Type 0
+IsListedCost table x found = MatchOption found (ListsClass table x → ⊥)
+    (λ cost. ListsClass table x × ((d : ℕ) → Lists table x d ↔ cost ≤ d))
 
 -- where a board that d moves lead to settles to, it holds
 abbrev pub SettledHolds : GameRules → Content → Board → ℕ → Type 0

@@ -3,7 +3,7 @@ use Rattle.std.specs.Prelude.{ℕ, ◌<◌, ◌≤◌, length, List, slice_index
 
 -- of pairs in the order in which they were pushed, the place of the one that is taken first: no pair has a lesser f,
 -- and no later pair an equal one
-pub record IsPlaceOfNext (pushed : List (ℕ × ℕ)) (place : ℕ) : Type 0 where
+pub record IsPlaceOfLeast (pushed : List (ℕ × ℕ)) (place : ℕ) : Type 0 where
   pub within : place < length pushed
   pub least : (k : ℕ) (d : ℕ × ℕ) → k < length pushed → (slice_index_or pushed place d).0 ≤ (slice_index_or pushed k d).0
   pub last : (k : ℕ) (d : ℕ × ℕ) → place < k → k < length pushed

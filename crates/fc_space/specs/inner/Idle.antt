@@ -3,7 +3,7 @@ use Rattle.std.specs.Prelude.{◌≡◌, ℕ, false, Some, List, ◌++◌, Conta
 use Rattle.std.specs.Int.{bit_at}
 use Rattle.fc_cards.specs.Card.{suit}
 use Rattle.fc_cards.specs.declared.places.Place.{Place}
-use Rattle.fc_position.specs.Board.{Board, IsNext, lifted, playable}
+use Rattle.fc_position.specs.Board.{Board, IsNext, board_without, playable}
 use Rattle.fc_moves.specs.declared.steps.Move.{Move}
 use Rattle.fc_moves.specs.GameRules.{GameRules}
 use Rattle.fc_moves.specs.Class.{SameClass}
@@ -20,7 +20,7 @@ pub record IsIdle (b : Board) (note : ℕ) (from : Place) (u : ℕ) : Type 0 whe
   pub next : IsNext b.homes u → ⊥
   pub held : is_held_back b u ≡ false
   pub noted : bit_at note u ≡ 0
-  pub beneath : (c : ℕ) → playable (lifted b from) from ≡ Some c → IsNext b.homes c → ⊥
+  pub beneath : (c : ℕ) → playable (board_without b from) from ≡ Some c → IsNext b.homes c → ⊥
 
 -- the moves and those that are left out lead to each class to which a move leads, and only moves of idle cards are left out
 pub record LeavesIdle (g : GameRules) (b : Board) (note : ℕ) (left moves : List Move) : Type 0 where

@@ -2,7 +2,7 @@
 use Rattle.std.specs.Prelude.{◌≢◌, ℕ, ◌+◌, Option, IfSome}
 use Rattle.fc_cards.specs.declared.places.Place.{Place}
 use Rattle.fc_cards.specs.declared.places.Place.TheVariants.{Home}
-use Rattle.fc_position.specs.Board.{Board, lifted}
+use Rattle.fc_position.specs.Board.{Board, board_without}
 use Rattle.fc_moves.specs.declared.steps.Move.{Move}
 use Rattle.fc_moves.specs.GameRules.{GameRules}
 use Rattle.fc_moves.specs.Step.{Allows, Step}
@@ -27,4 +27,4 @@ IsStanding w b (Settled m code count) = IsChildOf w b m (record { key = code; co
 
 -- what is kept of a card that was lifted from a place is shown of the board without it
 abbrev pub IsKept : BoundKind → Board → Option (Place × Shown) → Type 0
-IsKept kind b kept = IfSome kept (λ k. IsShown kind (lifted b k.0) k.1.number k.1.note)
+IsKept kind b kept = IfSome kept (λ k. IsShown kind (board_without b k.0) k.1.number k.1.note)

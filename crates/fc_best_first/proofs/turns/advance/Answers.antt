@@ -3,7 +3,7 @@ use Rattle.std.specs.Prelude.{IfOk, slice_get}
 use Rattle.std.proofs.lemmas.Result.{IfOk-weaker}
 use Rattle.fc_best_first.specs.declared.spaces.Noted.{Noted}
 use Rattle.fc_best_first.specs.Graph.{Task}
-use Rattle.fc_best_first.specs.Store.{IsTaken, weighed}
+use Rattle.fc_best_first.specs.Store.{IsTaken, weighed_cost}
 use Rattle.fc_best_first.specs.Turn.{Advances, Closes, Expands, ExpandsTaken}
 use Rattle.fc_best_first.specs.inner.Turn.{Becomes, IsReady}
 use Rattle.fc_best_first.proofs.KeptLemmas.{entry_low, entry_reached, pair_high, stands_within, taken_floor, taken_within}
@@ -72,7 +72,7 @@ taken g c = record {
 }
 
 -- its weighed cost is no more than its f
-low : (g : _) (c : After-opens_at g) → weighed c.args.strategy.now c.at.result.1 ≤ c.in-Some.f
+low : (g : _) (c : After-opens_at g) → weighed_cost c.args.strategy.now c.at.result.1 ≤ c.in-Some.f
 low g c =
     let task : Task g.row.K.Denot = record { graph = g.S.Space.graph c.args.space.now; strategy = c.args.strategy.now; limit = c.args.limit } in
     let high = pair_high task c.args.book.now c.in-Some.f c.in-Some.number c.take.new.self.waiting c.at.result.0.now c.at.result.1
@@ -143,7 +143,7 @@ close-requires g c =
     record {
       later = subst (λ k. IsReady c.expand.new.book c.in-Some.number k c.in_ok-placing.placing) (sym c.weighed-cost.ensures.value)
           (placing_ready c.args.strategy.now.expansion (g.S.Space.graph c.args.space.now) c.expand.new.book c.in-Some.number c.in-Some.f
-          (weighed c.args.strategy.now c.at.result.1) c.in_ok-placing.placing c.in_ok-placing.ensures.noted (omega (arith, lt, grow))
+          (weighed_cost c.args.strategy.now c.at.result.1) c.in_ok-placing.placing c.in_ok-placing.ensures.noted (omega (arith, lt, grow))
           (low g now.After-opens_at) c.in_ok-placing.ensures.near);
     }
 
@@ -153,7 +153,7 @@ returns-clause-takes g c =
     let task : Task g.row.K.Denot = record { graph = g.S.Space.graph c.args.space.now; strategy = c.args.strategy.now; limit = c.args.limit } in
     let expands = c.in_ok-placing.ensures.expands in
     let all = c.visit-others.ensures.children expands.0 expands.2 in
-    let works : (left_out : Option g.row.K.Denot) → Closes c.expand.new.book c.close.new.book c.in-Some.number (weighed c.args.strategy.now c.at.result.1) c.in_ok-placing.placing left_out
+    let works : (left_out : Option g.row.K.Denot) → Closes c.expand.new.book c.close.new.book c.in-Some.number (weighed_cost c.args.strategy.now c.at.result.1) c.in_ok-placing.placing left_out
     → ExpandsTaken task c.args.book.now c.close.new.book c.in-Some.number left_out = λ left_out closes. (
       c.in-Some.f,
       c.at.result.0.now,
@@ -179,10 +179,10 @@ returns-clause-takes g c =
       ),
     ) in
     IfOk-weaker c.close.result
-    (Becomes c.expand.new.book c.close.new.book c.in-Some.number (weighed c.args.strategy.now c.at.result.1) c.in_ok-placing.placing)
+    (Becomes c.expand.new.book c.close.new.book c.in-Some.number (weighed_cost c.args.strategy.now c.at.result.1) c.in_ok-placing.placing)
     (Advances task c.args.book.now c.close.new.book)
     (λ status becomes. becomes_advances task c.args.book.now c.expand.new.book c.close.new.book c.in-Some.number
-    (weighed c.args.strategy.now c.at.result.1) c.in_ok-placing.placing works status becomes)
+    (weighed_cost c.args.strategy.now c.at.result.1) c.in_ok-placing.placing works status becomes)
     (subst (λ k. IfOk c.close.result (Becomes c.expand.new.book c.close.new.book c.in-Some.number k c.in_ok-placing.placing))
     c.weighed-cost.ensures.value c.close.ensures.closes)
 

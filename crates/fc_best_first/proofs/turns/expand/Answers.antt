@@ -1,7 +1,7 @@
 use Rattle.std.proofs.Common.{ℕ, ◌≤◌, ◌+◌, ◌∙◌, Option, List, [], ◌∷◌, ap, refl, subst, sym, arith}
 use Rattle.std.proofs.lemmas.List.Elements.{Contains-append_right}
 use Rattle.fc_best_first.specs.Graph.{Task}
-use Rattle.fc_best_first.specs.Store.{Offers, weighed}
+use Rattle.fc_best_first.specs.Store.{Offers, weighed_cost}
 use Rattle.fc_best_first.specs.Turn.{Expands, candidate_of, put_off}
 use Rattle.fc_best_first.specs.inner.Turn.{IsLaterNear, IsPutOffNear, put_off_first}
 use Rattle.fc_best_first.specs.declared.books.Offered.{Offered}
@@ -17,7 +17,7 @@ loop-cost-init g c = record {
   owned = c.requires.owned;
   room = c.requires.room;
   noted = c.requires.noted;
-  near = first_near g.row.K.Denot c.args.strategy.now.expansion c.args.taken.now.f (weighed c.args.strategy.now c.args.taken.now.origin) c.args.others c.requires.near;
+  near = first_near g.row.K.Denot c.args.strategy.now.expansion c.args.taken.now.f (weighed_cost c.args.strategy.now c.args.taken.now.origin) c.args.others c.requires.near;
   reached = c.requires.reached;
   onward = λ new placing children rest expands. (children, placing, rest, expands, refl);
 }
@@ -51,15 +51,15 @@ loop-cost-preserved-in-PutOff g c =
     let child = child_of offered.0 c.in-Some.cost in
     let here = subst (Offers task c.args.taken.now.f c.loop-cost.book c.offer.new.book (candidate_of c.args.taken.now.origin child offered.1)) c.in-PutOff.is offered.3 in
     let past = off_past c.args.strategy.now.expansion c.args.taken.now.f _ c.in-PutOff.f here.0 in
-    let near : c.in-PutOff.f ≤ weighed c.args.strategy.now c.args.taken.now.origin + 28050 =
-    subst (λ (o : Offered g.row.K.Denot). IsPutOffNear (weighed c.args.strategy.now c.args.taken.now.origin) o) c.in-PutOff.is c.in_ok-key.ensures.near in
+    let near : c.in-PutOff.f ≤ weighed_cost c.args.strategy.now c.args.taken.now.origin + 28050 =
+    subst (λ (o : Offered g.row.K.Denot). IsPutOffNear (weighed_cost c.args.strategy.now c.args.taken.now.origin) o) c.in-PutOff.is c.in_ok-key.ensures.near in
     record {
       owned = c.offer.ensures.owned;
       room = offers_room task c.args.taken.now.f c.loop-cost.book c.offer.new.book (candidate_of c.args.taken.now.origin child offered.1) c.in_ok-key.field-0
           c.loop-cost.invariant.room offered.3;
       noted = offers_noted task c.args.taken.now.f c.loop-cost.book c.offer.new.book (candidate_of c.args.taken.now.origin child offered.1) c.in_ok-key.field-0
           c.loop-cost.invariant.noted offered.3;
-      near = near_least g.row.K.Denot c.args.strategy.now.expansion c.args.taken.now.f (weighed c.args.strategy.now c.args.taken.now.origin) c.loop-cost.later c.in-PutOff.f c.least_of.result
+      near = near_least g.row.K.Denot c.args.strategy.now.expansion c.args.taken.now.f (weighed_cost c.args.strategy.now c.args.taken.now.origin) c.loop-cost.later c.in-PutOff.f c.least_of.result
           c.loop-cost.invariant.near past.2 past.0 (omega (arith, near)) c.least_of.ensures.value;
       reached = λ children rest other there.
           c.loop-cost.invariant.reached (child ∷ children) (c.in-Some.ensures.next offered.0 children offered.2 ((c.offer.ensures.rest children).0 rest)) other
@@ -101,7 +101,7 @@ returns-in-Some-later-clause-expands g c =
 
 pub returns-in-Some-later-clause-near : goal.returns-in-Some-later-clause-near
 returns-in-Some-later-clause-near g c =
-    subst (λ (l : Option ℕ). IsLaterNear {K = g.row.K.Denot} c.args.strategy.now.expansion c.args.taken.now.f (weighed c.args.strategy.now c.args.taken.now.origin) (put_off_first l Whole))
+    subst (λ (l : Option ℕ). IsLaterNear {K = g.row.K.Denot} c.args.strategy.now.expansion c.args.taken.now.f (weighed_cost c.args.strategy.now c.args.taken.now.origin) (put_off_first l Whole))
     c.in-Some-later.is c.loop-cost.invariant.near
 
 pub returns-in-None-clause-expands : goal.returns-in-None-clause-expands

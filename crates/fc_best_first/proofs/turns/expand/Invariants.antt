@@ -1,6 +1,6 @@
 use Rattle.std.proofs.Common.{◌≡◌, ◌≤◌, length, List}
 use Rattle.fc_best_first.specs.Kept.{AreNoted}
-use Rattle.fc_best_first.specs.Store.{Store, weighed}
+use Rattle.fc_best_first.specs.Store.{Store, weighed_cost}
 use Rattle.fc_best_first.specs.Turn.{Expands}
 use Rattle.fc_best_first.specs.inner.Turn.{AreReached, IsLaterNear, put_off_first}
 use Rattle.fc_best_first.specs.declared.spaces.Child.{Child}
@@ -13,7 +13,7 @@ invariant-loop-cost g l = record {
   owned : g.S.Space.owns l.space l.walk;
   room : length l.book.stored ≤ l.strategy.budget;
   noted : AreNoted (g.S.Space.graph l.space) l.book;
-  near : IsLaterNear {K = g.row.K.Denot} l.strategy.expansion l.taken.f (weighed l.strategy l.taken.origin) (put_off_first l.later Whole);
+  near : IsLaterNear {K = g.row.K.Denot} l.strategy.expansion l.taken.f (weighed_cost l.strategy l.taken.origin) (put_off_first l.later Whole);
   reached : (children : List (Child g.row.K.Denot)) → g.S.Space.rest l.walk children → AreReached (g.S.Space.graph l.space) children;
   onward : (new : Store g.row.K.Denot) (placing : Placing g.row.K.Denot) (children : List (Child g.row.K.Denot))
       → g.S.Space.rest l.walk children

@@ -6,7 +6,7 @@ use Rattle.std.proofs.lemmas.Bool.{cases_eq, cases_lt, eqb-true}
 use Rattle.fc_position.specs.Board.{last_of}
 use Rattle.fc_bound.specs.Clearing.{without, cards_in, clearing_cost}
 use Rattle.fc_bound.specs.inner.Rows.{ends_in}
-use Rattle.fc_bound.specs.Knots.{has_last, is_loose, shed}
+use Rattle.fc_bound.specs.Knots.{has_last, is_loose, without_last_where}
 use Rattle.fc_bound.proofs.ClearingLemmas.{last_there}
 use Rattle.fc_bound.proofs.ClearingSearch.{loose_cost, loose_fewer, none_cost, knot_first, take_cost, take_fewer, take_cards}
 use Rattle.fc_bound.proofs.BitLemmas.{no_bits}
@@ -27,7 +27,7 @@ pub costs_at_most-requires : goal.costs_at_most-requires
 costs_at_most-requires t c =
     let s = c.args.left.now in
     let any = c.in-Some.ensures.some_loose in
-    let after : c.take_loose.new.self ≡ shed (is_loose s) s = c.in-Some.ensures.taken in
+    let after : c.take_loose.new.self ≡ without_last_where (is_loose s) s = c.in-Some.ensures.taken in
     let fewer = ap cards_in after in (
       omega (arith, loose_fewer s any, fewer),
       (omega (arith, loose_fewer s any, fewer, c.requires.few), subst AreCards (sym after) (shed-cards (is_loose s) s c.requires.cards)),

@@ -2,7 +2,7 @@ use Rattle.std.proofs.Common.{◌≡◌, true, sym, ◌∙◌, ap, subst, arith}
 use Rattle.std.specs.List.{list_any}
 use Rattle.fc_position.specs.Board.{last_of}
 use Rattle.fc_bound.specs.Clearing.{cards_in}
-use Rattle.fc_bound.specs.Knots.{has_last, is_in_knot, knot_count, shed}
+use Rattle.fc_bound.specs.Knots.{has_last, is_in_knot, knot_count, without_last_where}
 use Rattle.fc_bound.specs.inner.Rows.{AreLow, ends_in, waiting_in}
 use Rattle.fc_bound.proofs.KnotSteps.{count_is, knots_few, shed_knot}
 use Rattle.fc_bound.proofs.LeftLemmas.{shed_same}
@@ -46,14 +46,14 @@ overflow_add-count c =
 pub loop-count-smaller : goal.loop-count-smaller
 loop-count-smaller c =
     let v = c.loosen-lows.new.left in
-    let taken : c.shed.new.self ≡ shed (is_in_knot v) v =
+    let taken : c.shed.new.self ≡ without_last_where (is_in_knot v) v =
     c.shed.ensures.value ∙ shed_same (λ x. ends_in c.knot-knot.result (last_of x)) (is_in_knot v) v c.knot-knot.ensures.value.each in
     omega (arith, c.loosen-lows.ensures.fewer, shed_knot v (sym c.has_cards.ensures.value ∙ c.if-not-has_cards.false), ap cards_in taken)
 
 pub loop-count-preserved : goal.loop-count-preserved
 loop-count-preserved c =
     let v = c.loosen-lows.new.left in
-    let taken : c.shed.new.self ≡ shed (is_in_knot v) v =
+    let taken : c.shed.new.self ≡ without_last_where (is_in_knot v) v =
     c.shed.ensures.value ∙ shed_same (λ x. ends_in c.knot-knot.result (last_of x)) (is_in_knot v) v c.knot-knot.ensures.value.each in
     let some_last : list_any (λ column. has_last (last_of column)) v ≡ true = sym c.has_cards.ensures.value ∙ c.if-not-has_cards.false in
     record {

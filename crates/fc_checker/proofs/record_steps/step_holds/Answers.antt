@@ -1,6 +1,6 @@
 use Rattle.std.proofs.Common.{rules, ◌≡◌, ◌≢◌, ◌+◌, ◌↔◌, ℕ, IsTrue, false, length, sym, ◌∙◌, subst, arith}
 use Rattle.fc_cards.specs.declared.places.Place.TheVariants.{Home}
-use Rattle.fc_position.specs.Board.{lifted}
+use Rattle.fc_position.specs.Board.{board_without}
 use Rattle.fc_moves.proofs.BackLemmas.{IsTakenBack, taken_back}
 use Rattle.fc_home.specs.Settles.{Settles}
 use Rattle.fc_bound.proofs.LiftedLemmas.{columns_lifted}
@@ -18,8 +18,8 @@ put-requires g c =
     (sym c.len-sent.ensures.value ∙ c.if-sent-eq0.true) c.settle.ensures.settled in
     let columns = columns_lifted game c.args.position.now c.apply.new.position c.args.m c.apply.ensures.step other in
     record {
-      lookup = subst (λ y. IsLookupOf (lifted y c.args.m.to) c.lift.new.self) (sym still)
-          (looked_alike (lifted c.args.position.now c.args.m.from) (lifted c.apply.new.position c.args.m.to) c.lift.new.self columns c.lift.ensures.lookup);
+      lookup = subst (λ y. IsLookupOf (board_without y c.args.m.to) c.lift.new.self) (sym still)
+          (looked_alike (board_without c.args.position.now c.args.m.from) (board_without c.apply.new.position c.args.m.to) c.lift.new.self columns c.lift.ensures.lookup);
     }
 
 pub shift-requires : goal.shift-requires
@@ -43,9 +43,9 @@ put-requires-then-ne g c =
     let same = sym (c.shift.ensures.after c.apply.ensures.step.card back.there ∙ back.back) in
     let columns = columns_lifted game c.args.position.now c.apply.new.position c.args.m c.apply.ensures.step other in
     record {
-      lookup = subst (λ y. IsLookupOf (lifted y c.args.m.from) c.lift-then-ne.new.self) same
-          (looked_alike (lifted c.apply.new.position c.args.m.to) (lifted c.args.position.now c.args.m.from) c.lift-then-ne.new.self (sym columns)
-          (subst (λ y. IsLookupOf (lifted y c.args.m.to) c.lift-then-ne.new.self) still c.lift-then-ne.ensures.lookup));
+      lookup = subst (λ y. IsLookupOf (board_without y c.args.m.from) c.lift-then-ne.new.self) same
+          (looked_alike (board_without c.apply.new.position c.args.m.to) (board_without c.args.position.now c.args.m.from) c.lift-then-ne.new.self (sym columns)
+          (subst (λ y. IsLookupOf (board_without y c.args.m.to) c.lift-then-ne.new.self) still c.lift-then-ne.ensures.lookup));
     }
 
 pub returns-then-ne-clause-value : goal.returns-then-ne-clause-value

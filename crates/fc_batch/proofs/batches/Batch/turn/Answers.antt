@@ -1,7 +1,7 @@
 use Rattle.std.proofs.Common.{◌≡◌, ◌+◌, ◌<◌, ◌≤◌, Some, Err, ap, arith, subst, sym, is_some, nat_eq}
 use Rattle.std.specs.Map.{lookup}
 use Rattle.fc_best_first.specs.declared.searches.SearchFault.TheVariants.{NoSuch}
-use Rattle.fc_batch.specs.Batch.{Batch, TurnFor, running, work_left}
+use Rattle.fc_batch.specs.Batch.{Batch, TurnFor, count_if_running, work_left}
 use Rattle.fc_batch.proofs.BatchLemmas.{none_turned, turned, given_kept, work_falls}
 use Rattle.fc_batch.proofs.batches.Batch.turn.Goals as goal
 
@@ -40,7 +40,7 @@ returns-clause-most g c =
     let map = c.self.inside.searches in
     let left = c.get_mut.follows.lender c.turn.new.self in
     let new : Batch = record { searches = left.entries; added = c.self.inside.added } in
-    subst (λ b. work_left new + running c.turn.result ≤ work_left b) c.self.view_is
+    subst (λ b. work_left new + count_if_running c.turn.result ≤ work_left b) c.self.view_is
     (work_falls c.args.i map.entries left.entries c.in-Some.search.now c.turn.new.self (sym c.in-Some.ensures.value)
     c.self.inside.added c.turn.result (c.get_mut.follows.holds c.turn.new.self).0
     (record { problem = c.turn.ensures.problem; turned = c.turn.ensures.turns; floor = c.turn.ensures.floor })
@@ -55,5 +55,5 @@ returns-clause-falls g c = λ runs.
     c.self.inside.added c.turn.result (c.get_mut.follows.holds c.turn.new.self).0
     (record { problem = c.turn.ensures.problem; turned = c.turn.ensures.turns; floor = c.turn.ensures.floor })
     c.turn.ensures.falls in
-    let one : running c.turn.result ≡ 1 = ap running runs in
+    let one : count_if_running c.turn.result ≡ 1 = ap count_if_running runs in
     subst (λ b. work_left new < work_left b) c.self.view_is (omega (arith, less, one))

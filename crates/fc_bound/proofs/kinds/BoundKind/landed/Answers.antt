@@ -1,6 +1,6 @@
 use Rattle.std.proofs.Common.{◌≡◌, ℕ, Some, None, sym, ◌∙◌, ap, subst}
 use Rattle.fc_cards.specs.declared.places.Place.TheVariants.{Column}
-use Rattle.fc_position.specs.Board.{column, last_of, lifted, playable}
+use Rattle.fc_position.specs.Board.{column, last_of, board_without, playable}
 use Rattle.fc_bound.specs.Kinds.{IsShown}
 use Rattle.fc_bound.proofs.FamilyMoved.{cell_shown, none_shown, one_last, small, small_lifted}
 use Rattle.fc_bound.proofs.kinds.BoundKind.landed.Goals as goal
@@ -11,9 +11,9 @@ with_last-requires-clause-kept c j ends =
     let i = c.in-Column-Some.field-0-0 in
     let last : last_of (column b i) ≡ Some c.index.result =
     ap (playable b) (sym c.in-Column-Some.is-0) ∙ sym c.playable.ensures.value ∙ c.in-Column-Some.is-1 ∙ ap (λ (n : ℕ). Some n) (sym c.index.ensures.value) in
-    subst (λ k. IsShown c.args.self (lifted b (Column k)) c.args.kept.number c.args.kept.note)
+    subst (λ k. IsShown c.args.self (board_without b (Column k)) c.args.kept.number c.args.kept.note)
     (one_last b i j c.index.result c.playable.ensures.whole last ends)
-    (subst (λ to. IsShown c.args.self (lifted b to) c.args.kept.number c.args.kept.note) c.in-Column-Some.is-0 c.requires.kept)
+    (subst (λ to. IsShown c.args.self (board_without b to) c.args.kept.number c.args.kept.note) c.in-Column-Some.is-0 c.requires.kept)
 
 pub returns-in-Column-Some-clause-most : goal.returns-in-Column-Some-clause-most
 returns-in-Column-Some-clause-most c =
@@ -26,7 +26,7 @@ returns-in-Column-None-clause-shown c =
     let none : last_of (column b i) ≡ None =
     ap (playable b) (sym c.in-Column-None.is-0) ∙ sym c.playable.ensures.value ∙ c.in-Column-None.is-1 in
     none_shown c.args.self b i c.args.kept.number c.args.kept.note none
-    (subst (λ to. IsShown c.args.self (lifted b to) c.args.kept.number c.args.kept.note) c.in-Column-None.is-0 c.requires.kept)
+    (subst (λ to. IsShown c.args.self (board_without b to) c.args.kept.number c.args.kept.note) c.in-Column-None.is-0 c.requires.kept)
 
 pub returns-in-Column-None-clause-most : goal.returns-in-Column-None-clause-most
 returns-in-Column-None-clause-most c =
@@ -36,7 +36,7 @@ pub returns-in-Cell-default-clause-shown : goal.returns-in-Cell-default-clause-s
 returns-in-Cell-default-clause-shown c =
     let b = c.args.position.now in
     cell_shown c.args.self b c.in-Cell-default.field-0-0 c.args.kept.number c.args.kept.note
-    (subst (λ to. IsShown c.args.self (lifted b to) c.args.kept.number c.args.kept.note) c.in-Cell-default.is-0 c.requires.kept)
+    (subst (λ to. IsShown c.args.self (board_without b to) c.args.kept.number c.args.kept.note) c.in-Cell-default.is-0 c.requires.kept)
 
 pub returns-in-Cell-default-clause-most : goal.returns-in-Cell-default-clause-most
 returns-in-Cell-default-clause-most c =

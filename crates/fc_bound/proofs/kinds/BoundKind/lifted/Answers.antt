@@ -1,6 +1,6 @@
 use Rattle.std.proofs.Common.{◌≡◌, ℕ, Some, None, sym, ◌∙◌, ap, subst}
 use Rattle.fc_cards.specs.declared.places.Place.TheVariants.{Column}
-use Rattle.fc_position.specs.Board.{column, last_of, lifted, playable}
+use Rattle.fc_position.specs.Board.{column, last_of, board_without, playable}
 use Rattle.fc_bound.specs.Kinds.{IsShown}
 use Rattle.fc_bound.proofs.FamilyMoved.{shown_cell, shown_none, small, small_lifted}
 use Rattle.fc_bound.proofs.kinds.BoundKind.lifted.Goals as goal
@@ -20,7 +20,7 @@ returns-in-Column-None-clause-shown c =
     let i = c.in-Column-None.field-0-0 in
     let none : last_of (column b i) ≡ None =
     ap (playable b) (sym c.in-Column-None.is-0) ∙ sym c.playable.ensures.value ∙ c.in-Column-None.is-1 in
-    subst (λ from. IsShown c.args.self (lifted b from) c.args.shown.number c.args.shown.note) (sym c.in-Column-None.is-0)
+    subst (λ from. IsShown c.args.self (board_without b from) c.args.shown.number c.args.shown.note) (sym c.in-Column-None.is-0)
     (shown_none c.args.self b i c.args.shown.number c.args.shown.note none c.requires.shown)
 
 pub returns-in-Column-None-clause-most : goal.returns-in-Column-None-clause-most
@@ -30,7 +30,7 @@ returns-in-Column-None-clause-most c =
 pub returns-in-Cell-default-clause-shown : goal.returns-in-Cell-default-clause-shown
 returns-in-Cell-default-clause-shown c =
     let b = c.args.position.now in
-    subst (λ from. IsShown c.args.self (lifted b from) c.args.shown.number c.args.shown.note) (sym c.in-Cell-default.is-0)
+    subst (λ from. IsShown c.args.self (board_without b from) c.args.shown.number c.args.shown.note) (sym c.in-Cell-default.is-0)
     (shown_cell c.args.self b c.in-Cell-default.field-0-0 c.args.shown.number c.args.shown.note c.requires.shown)
 
 pub returns-in-Cell-default-clause-most : goal.returns-in-Cell-default-clause-most

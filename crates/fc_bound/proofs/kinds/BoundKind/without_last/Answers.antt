@@ -1,6 +1,6 @@
 use Rattle.std.proofs.Common.{◌≡◌, ℕ, cond, sym, ◌∙◌, ap, subst, arith}
 use Rattle.fc_cards.specs.declared.places.Place.TheVariants.{Column}
-use Rattle.fc_position.specs.Board.{lifted}
+use Rattle.fc_position.specs.Board.{board_without}
 use Rattle.fc_bound.specs.declared.kinds.BoundKind.TheVariants.{Clearing}
 use Rattle.fc_bound.specs.Bound.{is_held_back}
 use Rattle.fc_bound.specs.Kinds.{IsShown}
@@ -33,6 +33,6 @@ returns-in-Plain-clause-shown c i last =
 
 pub returns-in-Clearing-clause-shown : goal.returns-in-Clearing-clause-shown
 returns-in-Clearing-clause-shown c i last =
-    subst (λ k. IsShown k (lifted c.args.position.now (Column i)) c.without.result.number c.without.result.note) (sym c.in-Clearing.is)
+    subst (λ k. IsShown k (board_without c.args.position.now (Column i)) c.without.result.number c.without.result.note) (sym c.in-Clearing.is)
     (lift_free Clearing c.args.position.now i c.args.card c.without.result.number c.without.result.note c.is_held.ensures.whole last
     (sym c.is_held.ensures.value ∙ c.if-is_held.false) (λ _. c.without.ensures.apart) c.without.ensures.shown)

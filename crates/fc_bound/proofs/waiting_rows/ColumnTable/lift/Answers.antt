@@ -1,7 +1,7 @@
 use Rattle.std.proofs.Common.{◌≡◌, ℕ, Some, None, max, bit_or, get_or, sym, ◌∙◌, ap, subst}
 use Rattle.std.specs.Int.{bit_at}
 use Rattle.std.proofs.lemmas.Nat.Bits.{bit_at_or}
-use Rattle.fc_position.specs.Board.{column, last_of, lifted, playable}
+use Rattle.fc_position.specs.Board.{column, last_of, board_without, playable}
 use Rattle.fc_bound.specs.Rows.{IsTableOf, no_row}
 use Rattle.fc_bound.proofs.TableLemmas.{none_lifted, table_lifted}
 use Rattle.fc_bound.proofs.waiting_rows.ColumnTable.lift.Goals as goal
@@ -15,7 +15,7 @@ returns-in-Column-Some-clause-table c =
     let beneath = (get_or t.rows u no_row).beneath in
     let last : last_of (column b i) ≡ Some u =
     ap (playable b) (sym c.in-Column-Some.is-0) ∙ sym c.playable.ensures.value ∙ c.in-Column-Some.is-1 ∙ ap (λ (n : ℕ). Some n) (sym c.index-index.ensures.value) in
-    subst (λ from. IsTableOf (lifted b from).columns (record {
+    subst (λ from. IsTableOf (board_without b from).columns (record {
       rows = t.rows;
       marks = record { all = c.remove-self.result; lasts = bit_or c.remove.result beneath; held = c.remove-self-in-Column-Some.result };
     })) (sym c.in-Column-Some.is-0)
@@ -30,5 +30,5 @@ returns-in-Column-None-clause-table c =
     let i = c.in-Column-None.field-0-0 in
     let none : last_of (column b i) ≡ None =
     ap (playable b) (sym c.in-Column-None.is-0) ∙ sym c.playable.ensures.value ∙ c.in-Column-None.is-1 in
-    subst (λ from. IsTableOf (lifted b from).columns c.args.self.now) (sym c.in-Column-None.is-0)
+    subst (λ from. IsTableOf (board_without b from).columns c.args.self.now) (sym c.in-Column-None.is-0)
     (subst (λ v. IsTableOf v c.args.self.now) (sym (none_lifted b.columns i none)) c.requires.table)

@@ -1,6 +1,6 @@
 use Rattle.std.proofs.Common.{◌<◌, ◌≤◌, ◌∙◌, ap}
 use Rattle.std.proofs.lemmas.Result.{on_ok_weaker}
-use Rattle.fc_frontier.specs.Queue.{inserted}
+use Rattle.fc_frontier.specs.Queue.{with_pair}
 use Rattle.fc_frontier.proofs.QueueLemmas.{inserted-adds_to, pushed-all, pushed-near, pushed-far}
 use Rattle.fc_frontier.proofs.buckets.BucketFrontierFrontier.push.Goals as goal
 
@@ -22,7 +22,7 @@ invariant_of-self-else-f-lt-STACKS c = (
 pub returns-then-f-lt-STACKS-clause-order : goal.returns-then-f-lt-STACKS-clause-order
 returns-then-f-lt-STACKS-clause-order c = on_ok_weaker c.push.result
     (λ is. pushed-near 1024 (c.args.f, c.args.node) c.self.inside.near c.self.inside.far c.push.new.self c.if-f-lt-STACKS.true
-    c.self.invariant.1 is ∙ ap (inserted (c.args.f, c.args.node)) c.self.view_is)
+    c.self.invariant.1 is ∙ ap (with_pair (c.args.f, c.args.node)) c.self.view_is)
     c.push.ensures.order
 
 pub returns-then-f-lt-STACKS-clause-added : goal.returns-then-f-lt-STACKS-clause-added
@@ -32,7 +32,7 @@ returns-then-f-lt-STACKS-clause-added c = on_ok_weaker c.push.result
 pub returns-else-f-lt-STACKS-clause-order : goal.returns-else-f-lt-STACKS-clause-order
 returns-else-f-lt-STACKS-clause-order c = on_ok_weaker c.push-else-f-lt-STACKS.result
     (λ is. pushed-far 1024 (c.args.f, c.args.node) c.self.inside.near c.self.inside.far c.push-else-f-lt-STACKS.new.self
-    c.if-f-lt-STACKS.false c.self.invariant.0 is ∙ ap (inserted (c.args.f, c.args.node)) c.self.view_is)
+    c.if-f-lt-STACKS.false c.self.invariant.0 is ∙ ap (with_pair (c.args.f, c.args.node)) c.self.view_is)
     c.push-else-f-lt-STACKS.ensures.order
 
 pub returns-else-f-lt-STACKS-clause-added : goal.returns-else-f-lt-STACKS-clause-added

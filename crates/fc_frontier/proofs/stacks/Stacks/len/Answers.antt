@@ -2,7 +2,7 @@ use Rattle.std.proofs.Common.{◌+◌, sym, ◌∙◌, ap, arith, length}
 use Rattle.std.specs.Prelude.{sum_by}
 use Rattle.std.proofs.lemmas.List.{take_all}
 use Rattle.fc_frontier.specs.Stack.{nodes_of}
-use Rattle.fc_frontier.specs.inner.Stack.{stacked}
+use Rattle.fc_frontier.specs.inner.Stack.{queue_from}
 use Rattle.fc_frontier.proofs.StackLemmas.{length-more, length-nodes_of, length-stacked}
 use Rattle.fc_frontier.proofs.stacks.Stacks.len.Goals as goal
 
@@ -21,5 +21,5 @@ returns-clause-size c =
     c.loop-stack.invariant.sum
     ∙ ap (sum_by length) (take_all c.loop-stack.stack-index (nodes_of stacks) (omega (arith, length-nodes_of stacks, c.loop-stack-test.false)))
     ∙ sym (length-stacked 0 (nodes_of stacks))
-    ∙ ap (λ stacks. length (stacked 0 (nodes_of stacks))) c.deref-stack-items.ensures.value
+    ∙ ap (λ stacks. length (queue_from 0 (nodes_of stacks))) c.deref-stack-items.ensures.value
     ∙ ap length c.self.view_is

@@ -1,6 +1,6 @@
 use Rattle.std.proofs.Common.{sym, ◌∙◌, ap, subst, arith}
-use Rattle.fc_frontier.specs.Queue.{inserted}
-use Rattle.fc_frontier.specs.inner.Stack.{AreStacks, stacked}
+use Rattle.fc_frontier.specs.Queue.{with_pair}
+use Rattle.fc_frontier.specs.inner.Stack.{AreStacks, queue_from}
 use Rattle.fc_frontier.proofs.StackLemmas.{on_err, grown_are, changed, put_back, pushed_on}
 use Rattle.fc_frontier.proofs.stacks.Stacks.push.Goals as goal
 
@@ -15,7 +15,7 @@ invariant_of-self-in_err-push c =
 pub returns-in_err-push-clause-refused : goal.returns-in_err-push-clause-refused
 returns-in_err-push-clause-refused c =
     on_err c.from_residual-in_err-push.result
-    (ap (stacked 0) (put_back c.grow.new.stacks.items c.args.place c.index_mut-stack.result.now c.push.new.self
+    (ap (queue_from 0) (put_back c.grow.new.stacks.items c.args.place c.index_mut-stack.result.now c.push.new.self
     (omega (arith, c.in_ok-grow.ensures.enough, c.grow.new.stacks.ok.0)) c.index_mut-stack.ensures.value c.in_err-push.ensures.items)
     ∙ c.grow.ensures.grown.same ∙ c.self.view_is)
 
@@ -32,4 +32,4 @@ returns-clause-order c =
     pushed_on c.grow.new.stacks.items c.args.place c.args.node c.index_mut-stack.result.now c.push.new.self
     (omega (arith, c.in_ok-grow.ensures.enough, c.grow.new.stacks.ok.0))
     c.index_mut-stack.ensures.value c.in_ok-push.ensures.items
-    ∙ ap (inserted (c.args.place, c.args.node)) (c.grow.ensures.grown.same ∙ c.self.view_is)
+    ∙ ap (with_pair (c.args.place, c.args.node)) (c.grow.ensures.grown.same ∙ c.self.view_is)

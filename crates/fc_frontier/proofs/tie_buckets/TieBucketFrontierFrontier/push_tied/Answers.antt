@@ -1,7 +1,7 @@
 use Rattle.std.proofs.Common.{◌<◌, ◌≤◌, ◌∙◌, ap, arith}
 use Rattle.std.proofs.lemmas.Result.{on_ok_weaker}
 use Rattle.fc_frontier.specs.Place.{place_of}
-use Rattle.fc_frontier.specs.Queue.{inserted}
+use Rattle.fc_frontier.specs.Queue.{with_pair}
 use Rattle.fc_frontier.proofs.PlaceLemmas.{put-adds}
 use Rattle.fc_frontier.proofs.QueueLemmas.{pushed-all, pushed-near, pushed-far}
 use Rattle.fc_frontier.proofs.tie_buckets.TieBucketFrontierFrontier.push_tied.Goals as goal
@@ -25,7 +25,7 @@ pub returns-then-f-lt-NEAR-clause-order : goal.returns-then-f-lt-NEAR-clause-ord
 returns-then-f-lt-NEAR-clause-order c = on_ok_weaker c.push.result
     (λ is. pushed-near 524288 (place_of c.args.f c.args.tie, c.args.node) c.self.inside.near c.self.inside.far c.push.new.self
     (omega (arith, c.if-f-lt-NEAR.true, c.ranges.tie.fits)) c.self.invariant.1 is
-    ∙ ap (inserted (place_of c.args.f c.args.tie, c.args.node)) c.self.view_is)
+    ∙ ap (with_pair (place_of c.args.f c.args.tie, c.args.node)) c.self.view_is)
     c.push.ensures.order
 
 pub returns-then-f-lt-NEAR-clause-added : goal.returns-then-f-lt-NEAR-clause-added
@@ -37,7 +37,7 @@ pub returns-else-f-lt-NEAR-clause-order : goal.returns-else-f-lt-NEAR-clause-ord
 returns-else-f-lt-NEAR-clause-order c = on_ok_weaker c.push-else-f-lt-NEAR.result
     (λ is. pushed-far 524288 (place_of c.args.f c.args.tie, c.args.node) c.self.inside.near c.self.inside.far
     c.push-else-f-lt-NEAR.new.self (omega (arith, c.if-f-lt-NEAR.false)) c.self.invariant.0 is
-    ∙ ap (inserted (place_of c.args.f c.args.tie, c.args.node)) c.self.view_is)
+    ∙ ap (with_pair (place_of c.args.f c.args.tie, c.args.node)) c.self.view_is)
     c.push-else-f-lt-NEAR.ensures.order
 
 pub returns-else-f-lt-NEAR-clause-added : goal.returns-else-f-lt-NEAR-clause-added

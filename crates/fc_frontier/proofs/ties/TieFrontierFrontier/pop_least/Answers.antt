@@ -1,6 +1,6 @@
 use Rattle.std.proofs.Common.{refl, subst, ◌∷◌}
 use Rattle.std.proofs.lemmas.List.Sorted.{IsPermutation-sym}
-use Rattle.fc_frontier.specs.Tie.{TiedQueue, Takes}
+use Rattle.fc_frontier.specs.Tie.{TiedQueue, Pops}
 use Rattle.fc_frontier.proofs.TieLemmas.{next-from_greatest, older-taken, takes-adds, takes-least}
 use Rattle.fc_frontier.proofs.ties.TieFrontierFrontier.pop_least.Goals as goal
 
@@ -16,7 +16,7 @@ returns-clause-order c =
     let old = c.self.inside.heap.data.items in
     let new = c.pop.new.self.data.items in
     let tied = c.in_ok-tied.tied in
-    subst (λ (queue : TiedQueue). Takes c.pair.result queue (record { entries = new; pushes = c.self.inside.pushes })) c.self.view_is
+    subst (λ (queue : TiedQueue). Pops c.pair.result queue (record { entries = new; pushes = c.self.inside.pushes })) c.self.view_is
     (record {
       entry = tied;
       is = c.pair.ensures.value;

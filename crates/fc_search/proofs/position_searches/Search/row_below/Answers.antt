@@ -1,6 +1,6 @@
 use Rattle.std.proofs.Common.{◌≡◌, ◌+◌, sym, ◌∙◌, ap, arith}
 use Rattle.fc_bound.specs.Kinds.{guide_of}
-use Rattle.fc_canonical.specs.Spelled.{spelled}
+use Rattle.fc_canonical.specs.Spelled.{board_of_bytes}
 use Rattle.fc_answers.specs.Table.{key_by}
 use Rattle.fc_search.proofs.RowLemmas.{key_back, listed, passed_over}
 use Rattle.fc_search.proofs.position_searches.Search.row_below.Goals as goal
@@ -8,11 +8,11 @@ use Rattle.fc_search.proofs.position_searches.Search.row_below.Goals.{After-from
 
 -- the sum is that of the class's cost and bound
 summed : (g : _) (c : After-from g) → c.position_at-position.result.2.cost + c.from.result
-    ≡ c.position_at-position.result.2.cost + guide_of c.args.self.now.problem.method.bound (spelled (key_by c.args.self.now.problem.start c.position_at-position.result.1.now))
+    ≡ c.position_at-position.result.2.cost + guide_of c.args.self.now.problem.method.bound (board_of_bytes (key_by c.args.self.now.problem.start c.position_at-position.result.1.now))
 summed g c =
     let now = c.args.self.now in
     let spells = c.position_at-position.ensures.spells in
-    let board : c.position_at-position.result.0 ≡ spelled (key_by now.problem.start c.position_at-position.result.1.now) =
+    let board : c.position_at-position.result.0 ≡ board_of_bytes (key_by now.problem.start c.position_at-position.result.1.now) =
     spells.board ∙ sym (key_back now.problem.start c.position_at-position.result.1.now spells.name.position.position) in
     let kind : c.space.result.now.rules.kind ≡ now.problem.method.bound =
     ap (λ s. s.rules.kind) c.space.ensures.value ∙ ap (λ s. s.problem.method.bound) c.self.view_is in

@@ -1,5 +1,5 @@
 use Rattle.std.proofs.Common.{sym, subst, ap, ◌∙◌}
-use Rattle.fc_position.specs.Board.{Board, lifted}
+use Rattle.fc_position.specs.Board.{Board, board_without}
 use Rattle.fc_moves.specs.GameRules.{IsPositionOf}
 use Rattle.fc_moves.specs.Step.{Allows}
 use Rattle.fc_moves.proofs.BackLemmas.{taken_back}
@@ -9,7 +9,7 @@ use Rattle.fc_bound.specs.Rows.{IsTableOf}
 use Rattle.fc_bound.proofs.FamilyAfter.{lifted_there}
 use Rattle.fc_bound.proofs.LiftedLemmas.{columns_lifted}
 use Rattle.fc_codes.specs.State.{IsCodeOf}
-use Rattle.fc_space.specs.Children.{Left, frame_of, last_move}
+use Rattle.fc_space.specs.Children.{ChildrenLeft, frame_of, last_move}
 use Rattle.fc_space.specs.inner.Standing.{IsKept, IsStanding}
 use Rattle.fc_space.proofs.LookupLemmas.{still_laid}
 use Rattle.fc_space.proofs.child_walks.Children.landed.Goals as goal
@@ -26,7 +26,7 @@ put-requires g c =
 pub landed-landed-requires-clause-kept : goal.landed-landed-requires-clause-kept
 landed-landed-requires-clause-kept g c =
     let inner = c.self.inside in
-    let kept = subst (λ v. IsShown v.kind (lifted v.position c.args.m.from) c.args.kept.number c.args.kept.note) (sym c.self.view_is) c.requires.kept in
+    let kept = subst (λ v. IsShown v.kind (board_without v.position c.args.m.from) c.args.kept.number c.args.kept.note) (sym c.self.view_is) c.requires.kept in
     lifted_there inner.rules.kind (g.G.Game.game inner.rules.game) inner.position c.apply.new.position c.args.m c.args.kept.number c.args.kept.note
     c.apply.ensures.step c.requires.away kept
 
@@ -43,7 +43,7 @@ put-requires-2 g c =
     let back = taken_back rules inner.position c.apply.new.position c.args.m c.apply.ensures.step c.requires.away in
     let same = sym (c.shift.ensures.after c.apply.ensures.step.card back.there ∙ back.back) in
     record {
-      table = subst (λ b. IsTableOf (lifted b c.args.m.from).columns c.lift-2.new.self) same
+      table = subst (λ b. IsTableOf (board_without b c.args.m.from).columns c.lift-2.new.self) same
           (subst (λ v. IsTableOf v c.lift-2.new.self)
           (sym (columns_lifted rules inner.position c.apply.new.position c.args.m c.apply.ensures.step c.requires.away)) c.lift-2.ensures.table);
     }
@@ -72,7 +72,7 @@ pub returns-clause-same : goal.returns-clause-same
 returns-clause-same g c =
     let inner = c.self.inside in
     let back = taken_back (g.G.Game.game inner.rules.game) inner.position c.apply.new.position c.args.m c.apply.ensures.step c.requires.away in
-    let view : Board → Left g.row.G.Denot = λ b. record {
+    let view : Board → ChildrenLeft g.row.G.Denot = λ b. record {
       game = inner.rules.game;
       rule = inner.rules.rule;
       kind = inner.rules.kind;

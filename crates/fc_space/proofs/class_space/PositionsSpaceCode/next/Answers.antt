@@ -2,7 +2,7 @@ use Rattle.std.proofs.Common.{◌≡◌, [], ◌∷◌, reverse, sym, ap, ◌∙
 use Rattle.std.specs.Prelude.{Contains}
 use Rattle.std.proofs.lemmas.List.Elements.{Contains-push, Contains-append_left}
 use Rattle.std.proofs.lemmas.List.Sorted.{Contains-permutation, IsPermutation-reverse, IsPermutation-sym}
-use Rattle.fc_space.specs.Children.{AreChildrenBy, Left, StandsAt, frame_of, last_move}
+use Rattle.fc_space.specs.Children.{AreChildrenBy, ChildrenLeft, StandsAt, frame_of, last_move}
 use Rattle.fc_space.specs.inner.Children.{AreAllowed}
 use Rattle.fc_space.proofs.ChildLemmas.{IsFrame, child_at, child_exists, children_exist, children_same, next_child, stands_same}
 use Rattle.fc_space.proofs.class_space.PositionsSpaceCode.next.Goals as goal
@@ -31,7 +31,7 @@ returns-clause-next g c =
     let inner = c.walk.inside in
     let rules = g.G.Game.game inner.rules.game in
     let rest = c.pop.new.self.items in
-    let old : Left g.row.G.Denot = record {
+    let old : ChildrenLeft g.row.G.Denot = record {
       game = inner.rules.game;
       rule = inner.rules.rule;
       kind = inner.rules.kind;
@@ -63,7 +63,7 @@ returns-clause-there g c =
     let f = subst IsFrame (sym here) at_home in
     let allowed = c.walk.invariant.1 c.in_ok-m.m (subst (λ l. Contains l c.in_ok-m.m) (sym c.in_ok-m.ensures.items) (Contains-push rest c.in_ok-m.m)) in
     let child = child_exists v inner.position inner.code c.in_ok-m.m f c.walk.invariant.0 c.walk.invariant.4 allowed in
-    let old : Left g.row.G.Denot = record {
+    let old : ChildrenLeft g.row.G.Denot = record {
       game = inner.rules.game;
       rule = inner.rules.rule;
       kind = inner.rules.kind;
@@ -95,7 +95,7 @@ returns-clause-some g c =
     let at_home : IsFrame u = record { sound = g.met.G.Game.sound own.rules.game; fits = own.fits } in
     let f = subst IsFrame (sym here) at_home in
     let some = children_exist v inner.position inner.code (reverse rest) f c.walk.invariant.0 c.walk.invariant.4 allowed in
-    let old : Left g.row.G.Denot = record {
+    let old : ChildrenLeft g.row.G.Denot = record {
       game = inner.rules.game;
       rule = inner.rules.rule;
       kind = inner.rules.kind;
