@@ -1,7 +1,7 @@
 ghost use Rattle.std.specs.Prelude.{◌≡◌};
-ghost use Rattle.fc_methods.specs.Method.{as_written, shortest_asked};
+ghost use Rattle.fc_methods.specs.Method.{as_written, best_method, shortest_asked};
 
-use fc_best_first::{Budget, Strategy, Weight};
+use fc_best_first::{Budget, Expansion, GreatBudget, Strategy, Weight};
 use fc_bound::BoundKind;
 use fc_home::HomeRule;
 use fc_moves::Game;
@@ -30,6 +30,21 @@ impl Method {
             strategy: Strategy::full(Weight::ONE, budget.into()),
         }
     }
+
+    /// The search for the best answer of a position, by the clearing bound and partial expansion, under a home rule and within a budget.
+    pub fn best(rule: HomeRule, budget: GreatBudget) -> Method
+        ensures value { result ≡ best_method rule budget }
+    {
+        Method {
+            rule,
+            bound: BoundKind::Clearing,
+            strategy: Strategy {
+                weight: Weight::ONE,
+                expansion: Expansion::Partial,
+                budget,
+            },
+        }
+    }
 }
 
 /// What is sought of a position: what one search by the method answers, or the best answer that several searches give which store
@@ -49,9 +64,9 @@ pub struct Question<G: Game + Drop> {
 }
 
 impl<G: Game + Drop> Model for Question<G> {
-    ghost use Rattle.fc_methods.specs.Method.{Asked};
+    ghost use Rattle.fc_methods.specs.Method.{QuestionData};
 
-    ghost Value = { Asked };
+    ghost Value = { QuestionData };
 
     ghost view = { λ s. record { game = G.game s.game; sought = s.sought; method = s.method } };
 }

@@ -1,7 +1,7 @@
 ghost use Rattle.std.specs.Prelude.{◌≡◌, ◌↔◌, IsSome, IfSome};
 ghost use Rattle.fc_methods.specs.declared.methods.Method.{Method};
 ghost use Rattle.fc_best_first.specs.Limits.{IsBudget, IsGreatBudget};
-ghost use Rattle.fc_words.specs.Best.{best_method};
+ghost use Rattle.fc_methods.specs.Method.{best_method};
 
 use crate::forms::{Colours, MovesForm, ReplayForm};
 use crate::game_names::GameName;
@@ -127,16 +127,7 @@ impl BestSearchWords {
         ensures range { IsSome result ↔ IsGreatBudget self.now.budget }
         ensures value { IfSome result (λ method. method ≡ best_method self.now.rule self.now.budget) }
     {
-        let BestSearchWords { rule, budget } = *self;
-        Some(Method {
-            rule,
-            bound: BoundKind::Clearing,
-            strategy: Strategy {
-                weight: Weight::ONE,
-                expansion: Expansion::Partial,
-                budget: GreatBudget::new(budget)?,
-            },
-        })
+        Some(Method::best(self.rule, GreatBudget::new(self.budget)?))
     }
 }
 
