@@ -66,6 +66,13 @@ abbrev pub IsListUnanswered : ListQuestion → GameRules → Board → List (Lis
 IsListUnanswered q g b tokens (ListEnds count) = (count ≡ length tokens) × ((n : ℕ) × (q.wants ≡ BoardAfter n) × (length tokens < n))
 IsListUnanswered q g b tokens fault = HasEntries q.wants tokens × ComeToNone q.has_sequences g b (wanted_tokens q.wants tokens) fault
 
+-- the entries that are asked of come to one-card moves, which lead to this board
+pub record IsListBoard (q : ListQuestion) (g : GameRules) (start : Board) (tokens : List (List ℕ)) (last : Board) : Type 0 where
+  pub there : HasEntries q.wants tokens
+  pub steps : List Move
+  pub come : ComeTo q.has_sequences g start (wanted_tokens q.wants tokens) steps
+  pub run : Run g start steps last
+
 -- a text was given whose entries that are asked of come to these one-card moves, which lead to this board
 pub record IsPlayedTo (q : ListQuestion) (g : GameRules) (start : Board) (moves : Device) (steps : List Move) (last : Board) : Type 0 where
   pub text : List ℕ

@@ -3,7 +3,7 @@ use Rattle.std.specs.Prelude.{◌≡◌, ℕ, true, false, List, IsTrue}
 use Rattle.fc_io.specs.Moves.{TakesBytes, TakesFront}
 use Rattle.fc_position.specs.Board.{Board}
 use Rattle.fc_text.specs.Printed.{board_text}
-use Rattle.fc_show.specs.Drawing.{drawing, unmarked}
+use Rattle.fc_show.specs.Drawing.{drawing, style_without_mark}
 use Rattle.fc_board_runs.specs.declared.showing.Look.{Look}
 use Rattle.fc_board_runs.specs.declared.showing.Look.TheVariants.{Drawn, Coloured, Text}
 use Rattle.fc_board_runs.specs.declared.faults.Output.TheVariants.{Answer as of_answer}
@@ -13,8 +13,8 @@ use Rattle.fc_board_runs.specs.Devices.{Device}
 
 -- what shows a board of a game with n cells: its drawing, without or with colours, or its text
 abbrev pub look_text : Look → ℕ → Board → List ℕ
-look_text Drawn n b = drawing (unmarked false) n b
-look_text Coloured n b = drawing (unmarked true) n b
+look_text Drawn n b = drawing (style_without_mark false) n b
+look_text Coloured n b = drawing (style_without_mark true) n b
 look_text Text n b = board_text n b
 
 -- the sink took what shows a board

@@ -3,10 +3,11 @@
 #![tactic(auto)]
 
 pub use faults::{Input, Output, ProgramFault, read_fault};
-pub use list_questions::{ListQuestion, ListWants, run_list};
-pub use runs::{LONGEST_BOARD, LONGEST_MOVES, read_position, run_deal, run_replay, run_replay_as};
+pub use list_questions::{ListQuestion, ListWants, list_board, list_moves, run_list};
+pub use runs::{LONGEST_BOARD, LONGEST_MOVES, read_position, run_replay_as};
 pub use sequences::run_replay_sequences;
 pub use showing::{Look, run_show};
+pub use written_out::{run_deal, run_replay};
 
 mod faults;
 pub mod laws;
@@ -14,3 +15,4 @@ mod list_questions;
 mod runs;
 mod sequences;
 mod showing;
+mod written_out;

@@ -10,7 +10,7 @@ ghost use Rattle.fc_moves.specs.MoveText.{HasText};
 ghost use Rattle.fc_moves.specs.Run.{Run};
 ghost use Rattle.fc_replay.specs.Token.{move_tokens};
 ghost use Rattle.fc_board_runs.specs.Devices.{change};
-ghost use Rattle.fc_board_runs.specs.Lists.{AreMoves, ComeTo, HasEntries, IsListAnswered, IsNotAnswered, IsListStop, IsListUnanswered, wanted_tokens, wanted_text};
+ghost use Rattle.fc_board_runs.specs.Lists.{AreMoves, ComeTo, HasEntries, IsListAnswered, IsListBoard, IsNotAnswered, IsListStop, IsListUnanswered, wanted_tokens, wanted_text};
 
 use crate::faults::{Input, Output, ProgramFault, read_fault};
 use crate::runs::LONGEST_MOVES;
@@ -71,7 +71,7 @@ pub fn run_list<G: Game, M: Source, K: Sink>(
         Ok(text) => text,
         Err(fault) => return Err(read_fault(Input::Moves, fault)),
     };
-    let steps = moves_of(alloc, game, start, question, text.as_slice())?;
+    let steps = list_moves(alloc, game, start, text.as_slice(), question)?;
     let last = last_board(game, start, steps.as_slice());
     let answer = wanted_text(alloc, question.wants, steps.as_slice(), &last, game.cells())?;
     match write_all(out, answer.as_slice()) {
@@ -83,27 +83,53 @@ pub fn run_list<G: Game, M: Source, K: Sink>(
     }
 }
 
-// The one-card moves to which the entries of a text come that are asked of, at most 4,294,967,295.
-fn moves_of<G: Game>(
+/// The board after the entries of a list that are asked of, which are played from a position of the game as `run_list` plays them.
+///
+/// # Errors
+/// In this order: fewer entries than are asked of; what `run_replay_as` or `run_replay_sequences` says of entries that aren't played;
+/// want of memory.
+pub fn list_board<G: Game>(
     alloc: Global,
     game: &G,
-    position: &Position,
+    start: &Position,
+    list: &[u8],
     question: ListQuestion,
-    text: &[u8],
-) -> Result<Vec<Move>, ProgramFault>
-    requires fits { IsPositionOf (G.game game.now) position.now }
-    requires short { length text.now ≤ LONGEST_MOVES }
-    ensures there { IfOk result (λ _. HasEntries question.wants (move_tokens text.now)) }
-    ensures come { IfOk result (λ moves. ComeTo question.has_sequences (G.game game.now) position.now
-        (wanted_tokens question.wants (move_tokens text.now)) moves.items) }
-    ensures few { IfOk result (λ moves. length moves.items ≤ 4294967295) }
-    ensures fault { IfErr result (IsListUnanswered question (G.game game.now) position.now (move_tokens text.now)) }
+) -> Result<Position, ProgramFault>
+    requires fits { IsPositionOf (G.game game.now) start.now }
+    requires short { length list.now ≤ LONGEST_MOVES }
+    ensures board { IfOk result (IsListBoard question (G.game game.now) start.now (move_tokens list.now)) }
+    ensures fits { IfOk result (IsPositionOf (G.game game.now)) }
+    ensures fault { IfErr result (IsListUnanswered question (G.game game.now) start.now (move_tokens list.now)) }
 {
-    let most = most_entries(question.wants, text)?;
+    let steps = list_moves(alloc, game, start, list, question)?;
+    Ok(last_board(game, start, steps.as_slice()))
+}
+
+/// The one-card moves to which the entries of a list come that are asked of, at most 4,294,967,295: they are played from a position of
+/// the game as `run_list` plays them.
+///
+/// # Errors
+/// Those of `list_board`.
+pub fn list_moves<G: Game>(
+    alloc: Global,
+    game: &G,
+    start: &Position,
+    list: &[u8],
+    question: ListQuestion,
+) -> Result<Vec<Move>, ProgramFault>
+    requires fits { IsPositionOf (G.game game.now) start.now }
+    requires short { length list.now ≤ LONGEST_MOVES }
+    ensures there { IfOk result (λ _. HasEntries question.wants (move_tokens list.now)) }
+    ensures come { IfOk result (λ moves. ComeTo question.has_sequences (G.game game.now) start.now
+        (wanted_tokens question.wants (move_tokens list.now)) moves.items) }
+    ensures few { IfOk result (λ moves. length moves.items ≤ 4294967295) }
+    ensures fault { IfErr result (IsListUnanswered question (G.game game.now) start.now (move_tokens list.now)) }
+{
+    let most = most_entries(question.wants, list)?;
     if question.has_sequences {
-        expand_text(alloc, game, position, text, most)
+        expand_text(alloc, game, start, list, most)
     } else {
-        make_moves(alloc, game, position, text, most)
+        make_moves(alloc, game, start, list, most)
     }
 }
 

@@ -4,7 +4,7 @@ ghost use Rattle.std.specs.Prelude.{◌≡◌, ◌≤◌, ◌↔◌, IfOk, IfErr
 ghost use Rattle.fc_io.specs.Moves.{TakesBytes, TakesFront};
 ghost use Rattle.fc_position.specs.Position.{Fits};
 ghost use Rattle.fc_board_runs.specs.Devices.{change};
-ghost use Rattle.fc_show.specs.Drawing.{drawing, unmarked};
+ghost use Rattle.fc_show.specs.Drawing.{drawing, style_without_mark};
 ghost use Rattle.fc_board_runs.specs.Showing.{IsLookWritten, IsShowFault, look_text};
 
 use crate::faults::{Output, ProgramFault};
@@ -71,7 +71,7 @@ fn write_look<K: Sink>(
 fn drawn(position: &Position, cells: u8, is_coloured: bool) -> Drawing
     requires game { cells ≤ 4 }
     requires fits { Fits cells position.now }
-    ensures value { result.items ≡ drawing (unmarked is_coloured) cells position.now }
+    ensures value { result.items ≡ drawing (style_without_mark is_coloured) cells position.now }
 {
     draw(position, cells, &Style::unmarked(is_coloured))
 }

@@ -3,7 +3,7 @@
 //! nothing; the structs are those of `lib/luffaknife.h`.
 #![tactic(auto)]
 
-ghost use Rattle.std.specs.Prelude.{Result, MatchResult};
+ghost use Rattle.fc_exports.specs.Calls.{Delivers};
 ghost use Rattle.fc_library.specs.Bests.{IsBestCertified, IsBestRefused, IsBestTold};
 ghost use Rattle.fc_library.specs.Checks.{IsCheckTold, IsCheckRefused};
 ghost use Rattle.fc_library.specs.Deals.{IsDealRefused, IsDealTold};
@@ -13,9 +13,6 @@ ghost use Rattle.fc_library.specs.Reviews.{IsReviewRefused, IsReviewTold};
 ghost use Rattle.fc_library.specs.Rooms.{IsHandedOver, IsHandedOverBoth};
 ghost use Rattle.fc_library.specs.Sequences.{IsSequencesRefused, IsSequencesTold};
 ghost use Rattle.fc_library.specs.Solves.{IsSolvedCertified, IsSolvedTold, IsSolveRefused};
-ghost use Rattle.fc_library.specs.declared.told_answers.Certified.{Certified};
-ghost use Rattle.fc_library.specs.declared.told_answers.Told.{Told};
-ghost use Rattle.fc_library.specs.declared.call_refusals.CallRefusal.{CallRefusal};
 
 use fc_library::{
     Call, GameName, MethodName, best, best_certified, check_bytes, deal_of, hand_over,
@@ -27,8 +24,7 @@ use std::alloc::Global;
 /// The columns of a numbered deal, 1 to 1,000,000, a line each: at most 200 bytes.
 #[unsafe(no_mangle)]
 pub extern "C" fn luffaknife_deal(alloc: Global, number: u32, text: &mut [u8]) -> Call
-    ensures handed { (told : Result Told CallRefusal) × MatchResult told (IsDealTold number) (IsDealRefused number)
-        × IsHandedOver told text.old text.new result }
+    ensures handed { Delivers (IsDealTold number) (IsDealRefused number) (λ told. IsHandedOver told text.old text.new result) }
 {
     hand_over(&deal_of(alloc, number), text)
 }
@@ -42,8 +38,7 @@ pub extern "C" fn luffaknife_best(
     board: &[u8],
     text: &mut [u8],
 ) -> Call
-    ensures handed { (told : Result Told CallRefusal) × MatchResult told (IsBestTold name board.now budget) (IsBestRefused name board.now budget)
-        × IsHandedOver told text.old text.new result }
+    ensures handed { Delivers (IsBestTold name board.now budget) (IsBestRefused name board.now budget) (λ told. IsHandedOver told text.old text.new result) }
 {
     hand_over(&best(alloc, name, board, budget), text)
 }
@@ -58,8 +53,7 @@ pub extern "C" fn luffaknife_best_certified(
     text: &mut [u8],
     certificate: &mut [u8],
 ) -> Call
-    ensures handed { (told : Result Certified CallRefusal) × MatchResult told (IsBestCertified name board.now budget) (IsBestRefused name board.now budget)
-        × IsHandedOverBoth told (text.old, certificate.old) (text.new, certificate.new) result }
+    ensures handed { Delivers (IsBestCertified name board.now budget) (IsBestRefused name board.now budget) (λ told. IsHandedOverBoth told (text.old, certificate.old) (text.new, certificate.new) result) }
 {
     hand_over_certified(
         &best_certified(alloc, name, board, budget),
@@ -77,8 +71,7 @@ pub extern "C" fn luffaknife_keep_best(
     board: &[u8],
     text: &mut &'static [u8],
 ) -> Call
-    ensures kept { (told : Result Told CallRefusal) × MatchResult told (IsBestTold name board.now budget) (IsBestRefused name board.now budget)
-        × IsTextKept told text.old.now text.new.now result }
+    ensures kept { Delivers (IsBestTold name board.now budget) (IsBestRefused name board.now budget) (λ told. IsTextKept told text.old.now text.new.now result) }
 {
     keep(best(alloc, name, board, budget), text)
 }
@@ -93,8 +86,7 @@ pub extern "C" fn luffaknife_keep_best_certified(
     text: &mut &'static [u8],
     certificate: &mut &'static [u8],
 ) -> Call
-    ensures kept { (told : Result Certified CallRefusal) × MatchResult told (IsBestCertified name board.now budget) (IsBestRefused name board.now budget)
-        × AreBothKept told (text.old.now, certificate.old.now) (text.new.now, certificate.new.now) result }
+    ensures kept { Delivers (IsBestCertified name board.now budget) (IsBestRefused name board.now budget) (λ told. AreBothKept told (text.old.now, certificate.old.now) (text.new.now, certificate.new.now) result) }
 {
     keep_certified(
         best_certified(alloc, name, board, budget),
@@ -112,8 +104,7 @@ pub extern "C" fn luffaknife_solve(
     board: &[u8],
     text: &mut [u8],
 ) -> Call
-    ensures handed { (told : Result Told CallRefusal) × MatchResult told (IsSolvedTold name method board.now) (IsSolveRefused name method board.now)
-        × IsHandedOver told text.old text.new result }
+    ensures handed { Delivers (IsSolvedTold name method board.now) (IsSolveRefused name method board.now) (λ told. IsHandedOver told text.old text.new result) }
 {
     hand_over(&solve(alloc, name, method, board), text)
 }
@@ -128,8 +119,7 @@ pub extern "C" fn luffaknife_solve_certified(
     text: &mut [u8],
     certificate: &mut [u8],
 ) -> Call
-    ensures handed { (told : Result Certified CallRefusal) × MatchResult told (IsSolvedCertified name method board.now) (IsSolveRefused name method board.now)
-        × IsHandedOverBoth told (text.old, certificate.old) (text.new, certificate.new) result }
+    ensures handed { Delivers (IsSolvedCertified name method board.now) (IsSolveRefused name method board.now) (λ told. IsHandedOverBoth told (text.old, certificate.old) (text.new, certificate.new) result) }
 {
     hand_over_certified(
         &solve_certified(alloc, name, method, board),
@@ -147,8 +137,7 @@ pub extern "C" fn luffaknife_keep_solve(
     board: &[u8],
     text: &mut &'static [u8],
 ) -> Call
-    ensures kept { (told : Result Told CallRefusal) × MatchResult told (IsSolvedTold name method board.now) (IsSolveRefused name method board.now)
-        × IsTextKept told text.old.now text.new.now result }
+    ensures kept { Delivers (IsSolvedTold name method board.now) (IsSolveRefused name method board.now) (λ told. IsTextKept told text.old.now text.new.now result) }
 {
     keep(solve(alloc, name, method, board), text)
 }
@@ -163,8 +152,7 @@ pub extern "C" fn luffaknife_keep_solve_certified(
     text: &mut &'static [u8],
     certificate: &mut &'static [u8],
 ) -> Call
-    ensures kept { (told : Result Certified CallRefusal) × MatchResult told (IsSolvedCertified name method board.now) (IsSolveRefused name method board.now)
-        × AreBothKept told (text.old.now, certificate.old.now) (text.new.now, certificate.new.now) result }
+    ensures kept { Delivers (IsSolvedCertified name method board.now) (IsSolveRefused name method board.now) (λ told. AreBothKept told (text.old.now, certificate.old.now) (text.new.now, certificate.new.now) result) }
 {
     keep_certified(
         solve_certified(alloc, name, method, board),
@@ -182,8 +170,7 @@ pub extern "C" fn luffaknife_check(
     certificate: &[u8],
     text: &mut [u8],
 ) -> Call
-    ensures handed { (told : Result Told CallRefusal) × MatchResult told (IsCheckTold name board.now certificate.now) (IsCheckRefused name board.now certificate.now)
-        × IsHandedOver told text.old text.new result }
+    ensures handed { Delivers (IsCheckTold name board.now certificate.now) (IsCheckRefused name board.now certificate.now) (λ told. IsHandedOver told text.old text.new result) }
 {
     hand_over(&check_bytes(alloc, name, board, certificate), text)
 }
@@ -197,8 +184,7 @@ pub extern "C" fn luffaknife_replay(
     list: &[u8],
     text: &mut [u8],
 ) -> Call
-    ensures handed { (told : Result Told CallRefusal) × MatchResult told (IsReplayTold name board.now list.now) (IsReplayRefused name board.now list.now)
-        × IsHandedOver told text.old text.new result }
+    ensures handed { Delivers (IsReplayTold name board.now list.now) (IsReplayRefused name board.now list.now) (λ told. IsHandedOver told text.old text.new result) }
 {
     hand_over(&replay_list(alloc, name, board, list), text)
 }
@@ -212,8 +198,7 @@ pub extern "C" fn luffaknife_replay_sequences(
     list: &[u8],
     text: &mut [u8],
 ) -> Call
-    ensures handed { (told : Result Told CallRefusal) × MatchResult told (IsSequencesTold name board.now list.now) (IsSequencesRefused name board.now list.now)
-        × IsHandedOver told text.old text.new result }
+    ensures handed { Delivers (IsSequencesTold name board.now list.now) (IsSequencesRefused name board.now list.now) (λ told. IsHandedOver told text.old text.new result) }
 {
     hand_over(&replay_sequences(alloc, name, board, list), text)
 }
@@ -228,8 +213,7 @@ pub extern "C" fn luffaknife_review(
     list: &[u8],
     text: &mut [u8],
 ) -> Call
-    ensures handed { (told : Result Told CallRefusal) × MatchResult told (IsReviewTold name board.now list.now budget) (IsReviewRefused name board.now list.now budget)
-        × IsHandedOver told text.old text.new result }
+    ensures handed { Delivers (IsReviewTold name board.now list.now budget) (IsReviewRefused name board.now list.now budget) (λ told. IsHandedOver told text.old text.new result) }
 {
     hand_over(&review(alloc, name, board, list, budget), text)
 }
@@ -244,8 +228,7 @@ pub extern "C" fn luffaknife_keep_review(
     list: &[u8],
     text: &mut &'static [u8],
 ) -> Call
-    ensures kept { (told : Result Told CallRefusal) × MatchResult told (IsReviewTold name board.now list.now budget) (IsReviewRefused name board.now list.now budget)
-        × IsTextKept told text.old.now text.new.now result }
+    ensures kept { Delivers (IsReviewTold name board.now list.now budget) (IsReviewRefused name board.now list.now budget) (λ told. IsTextKept told text.old.now text.new.now result) }
 {
     keep(review(alloc, name, board, list, budget), text)
 }

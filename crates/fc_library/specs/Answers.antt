@@ -4,7 +4,7 @@ use Rattle.fc_answers.specs.declared.answers.Verdict.{Verdict}
 use Rattle.fc_answers.specs.Verdict.{outcome_of}
 use Rattle.fc_answer_text.specs.AnswerText.{answer_text, status_of}
 use Rattle.fc_board_runs.specs.Devices.{Device}
-use Rattle.fc_methods.specs.Method.{Asked}
+use Rattle.fc_methods.specs.Method.{QuestionData}
 use Rattle.fc_position.specs.Board.{Board}
 use Rattle.fc_search.specs.Problem.{Problem, problem_of}
 use Rattle.fc_best.specs.Answering.{IsVerdictFor}
@@ -29,9 +29,9 @@ pub record IsVerdictCertified (p : Problem) (verdict : Verdict) (both : Certifie
   pub certificate : IsCertified p verdict (sink_holding both.certificate.items)
 
 -- a verdict that answers a question for a board was told
-abbrev pub IsAnswerTold : Asked → Board → Told → Type 0
+abbrev pub IsAnswerTold : QuestionData → Board → Told → Type 0
 IsAnswerTold q b told = (verdict : Verdict) × IsVerdictFor q b verdict × IsVerdictTold verdict told
 
 -- and certified
-abbrev pub IsAnswerCertified : Asked → Board → Certified → Type 0
+abbrev pub IsAnswerCertified : QuestionData → Board → Certified → Type 0
 IsAnswerCertified q b both = (verdict : Verdict) × IsVerdictFor q b verdict × IsVerdictCertified (problem_of q b) verdict both

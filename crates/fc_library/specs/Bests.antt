@@ -1,11 +1,8 @@
 -- What the best answers of boards promise, told in memory.
 use Rattle.std.specs.Prelude.{ℕ, List}
 use Rattle.fc_position.specs.Board.{Board}
-use Rattle.fc_bound.specs.declared.kinds.BoundKind.TheVariants.{Clearing}
 use Rattle.fc_best_first.specs.Limits.{IsGreatBudget}
-use Rattle.fc_best_first.specs.declared.strategies.Expansion.TheVariants.{Partial}
-use Rattle.fc_methods.specs.Method.{Asked}
-use Rattle.fc_methods.specs.declared.methods.Method.{Method}
+use Rattle.fc_methods.specs.Method.{QuestionData, best_method}
 use Rattle.fc_methods.specs.declared.methods.Sought.TheVariants.{Best}
 use Rattle.fc_library.specs.Answers.{IsAnswerCertified, IsAnswerTold}
 use Rattle.fc_library.specs.Boards.{IsTextFault, SpellsOnceTidy}
@@ -16,13 +13,9 @@ use Rattle.fc_library.specs.declared.told_answers.Told.{Told}
 use Rattle.fc_library.specs.declared.call_refusals.CallRefusal.{CallRefusal}
 use Rattle.fc_library.specs.declared.call_refusals.CallRefusal.TheVariants as refused
 
--- a search by home rule 2, the clearing bound and partial expansion, within a budget
-abbrev pub usual_best_method : ℕ → Method
-usual_best_method budget = record { rule = 2; bound = Clearing; strategy = record { weight = record { parts = 1; times = 1 }; expansion = Partial; budget = budget } }
-
--- the question of a best answer in a game that is named
-abbrev pub asked_best : GameName → ℕ → Asked
-asked_best name budget = record { game = game_named name; sought = Best; method = usual_best_method budget }
+-- the question of a best answer in a game that is named, by home rule 2
+abbrev pub asked_best : GameName → ℕ → QuestionData
+asked_best name budget = record { game = game_named name; sought = Best; method = best_method 2 budget }
 
 -- what is asked can be: the game is one, the budget is one, and the text spells the position
 pub record CanBeAsked (name : GameName) (text : List ℕ) (budget : ℕ) (start : Board) : Type 0 where

@@ -8,7 +8,7 @@ use Rattle.fc_answers.specs.declared.answers.Outcome.TheVariants as outcome
 use Rattle.fc_answers.specs.declared.answers.Verdict.{Verdict}
 use Rattle.fc_answers.specs.declared.answers.Verdict.TheVariants.{Shortest, Won, CannotWin, GaveUp}
 use Rattle.fc_board_runs.specs.declared.runs.TheConstants.{LONGEST_MOVES}
-use Rattle.fc_methods.specs.Method.{Asked}
+use Rattle.fc_methods.specs.Method.{QuestionData}
 use Rattle.fc_replay.specs.Played.{SpellMoves}
 use Rattle.fc_replay.specs.Token.{move_tokens}
 use Rattle.fc_replay.specs.declared.faults.ReplayFault.TheVariants.{NotAllowed}
@@ -78,7 +78,7 @@ review_outcome (Traced review) = won_outcome review.won
 
 -- something is found of the moves, and was told: its line, the move that loses, from the board before which some list wins, and none
 -- from the board after it, its numbers, and its status
-pub record IsFoundTold (q : Asked) (b : Board) (moves : List Move) (told : Told) : Type 0 where
+pub record IsFoundTold (q : QuestionData) (b : Board) (moves : List Move) (told : Told) : Type 0 where
   pub finding : Finding
   pub found : IsFinding q b moves None finding
   pub tells : TellsFinding q.game b moves finding told.text.items

@@ -1,15 +1,13 @@
 //! The best answer of a board.
 ghost use Rattle.std.specs.Prelude.{◌≡◌, ◌≢◌, IfOk, IfErr};
 ghost use Rattle.fc_moves.specs.GameRules.{IsPositionOf};
-ghost use Rattle.fc_library.specs.Bests.{CanBeAsked, IsBestCertified, IsBestRefused, IsBestTold, asked_best, usual_best_method};
+ghost use Rattle.fc_library.specs.Bests.{CanBeAsked, IsBestCertified, IsBestRefused, IsBestTold, asked_best};
 
 use crate::call_refusals::CallRefusal;
 use crate::game_names::{AnyGame, GameName, game_of};
 use crate::told_answers::{Certified, Told, certify, tell};
 use crate::typed_boards::start_of;
-use fc_methods::{
-    BoundKind, Expansion, GreatBudget, HomeRule, Method, Question, Sought, Strategy, Weight,
-};
+use fc_methods::{GreatBudget, HomeRule, Method, Question, Sought};
 use fc_position::Position;
 use std::alloc::Global;
 
@@ -62,24 +60,9 @@ pub(crate) fn asked(
     };
     match start_of(board, name.cells) {
         Ok(start) => Ok((
-            Question::new(&game, Sought::Best, usual_best_method(budget)),
+            Question::new(&game, Sought::Best, Method::best(HomeRule::FREE, budget)),
             start,
         )),
         Err(fault) => Err(CallRefusal::Board(fault)),
-    }
-}
-
-// How a best answer is searched for, as the program does by default.
-fn usual_best_method(budget: GreatBudget) -> Method
-    ensures value { result ≡ usual_best_method budget }
-{
-    Method {
-        rule: HomeRule::FREE,
-        bound: BoundKind::Clearing,
-        strategy: Strategy {
-            weight: Weight::ONE,
-            expansion: Expansion::Partial,
-            budget,
-        },
     }
 }

@@ -13,9 +13,9 @@ pub(crate) struct ToVec {
 }
 
 impl Model for ToVec {
-    ghost use Rattle.fc_io.specs.States.{Filled};
+    ghost use Rattle.fc_io.specs.States.{ArrayState};
 
-    ghost Value = { Filled };
+    ghost Value = { ArrayState };
 
     ghost view = { λ s. record { bytes = s.bytes.items; has_failed = s.has_failed } };
 }

@@ -5,7 +5,7 @@ ghost use Rattle.fc_moves.specs.GameRules.{IsPositionOf};
 ghost use Rattle.fc_moves.specs.MoveText.{HasText};
 ghost use Rattle.fc_moves.specs.Run.{Run};
 ghost use Rattle.fc_moves.specs.declared.steps.Move.{Move};
-ghost use Rattle.fc_methods.specs.Method.{Asked};
+ghost use Rattle.fc_methods.specs.Method.{QuestionData};
 ghost use Rattle.fc_replay.specs.Token.{move_tokens};
 ghost use Rattle.fc_review.specs.Finding.{IsFinding};
 ghost use Rattle.fc_review.specs.Review.{Loses};
@@ -106,7 +106,7 @@ fn tell<G: Game + Drop>(
 // The number of the move that loses, from 1; 0 where none is known to.
 fn losing_place(finding: &Finding) -> u32
     ensures value { result ≡ losing_place finding.now }
-    ensures loses { (q : Asked) (b : Board) (moves : List Move) → IsFinding q b moves None finding.now → IfSome (losing_before finding.now) (Loses q.game b moves) }
+    ensures loses { (q : QuestionData) (b : Board) (moves : List Move) → IsFinding q b moves None finding.now → IfSome (losing_before finding.now) (Loses q.game b moves) }
 {
     match finding {
         Finding::Rated { .. } => 0,

@@ -4,14 +4,14 @@ use Rattle.std.specs.Prelude.{IfErr}
 use Rattle.fc_position.specs.Board.{Board}
 use Rattle.fc_moves.specs.declared.steps.Move.{Move}
 use Rattle.fc_moves.specs.GameRules.{GameRules}
-use Rattle.fc_methods.specs.Method.{Asked}
+use Rattle.fc_methods.specs.Method.{QuestionData}
 use Rattle.fc_board_runs.specs.declared.faults.ProgramFault.{ProgramFault}
 use Rattle.fc_board_runs.specs.Devices.{Device}
 use Rattle.fc_review.specs.Finding.{IsFinding, IsReviewed, IsFindingTold, IsUnreviewed, IsFindingUntold}
 use Rattle.fc_review.specs.declared.findings.Finding.{Finding}
 
 -- what is told was found
-pub reviewed : (q : Asked) (g : GameRules) (b : Board) (moves : List Move) (cert : Option Device) (sink : Device) (finding : Finding)
+pub reviewed : (q : QuestionData) (g : GameRules) (b : Board) (moves : List Move) (cert : Option Device) (sink : Device) (finding : Finding)
     (r : Result ℕ ProgramFault) → g ≡ q.game → IsFinding q b moves cert finding → IfOk r (IsFindingTold g b moves finding sink)
     → IfOk r (IsReviewed q b moves cert sink)
 reviewed q g b moves cert sink finding (Ok status) same found told =
@@ -19,7 +19,7 @@ reviewed q g b moves cert sink finding (Ok status) same found told =
 reviewed q g b moves cert sink finding (Err fault) same found told = told
 
 -- and so was what isn't told
-pub unreviewed : (q : Asked) (g : GameRules) (b : Board) (moves : List Move) (cert : Option Device) (sink : Device) (finding : Finding)
+pub unreviewed : (q : QuestionData) (g : GameRules) (b : Board) (moves : List Move) (cert : Option Device) (sink : Device) (finding : Finding)
     (r : Result ℕ ProgramFault) → g ≡ q.game → IsFinding q b moves cert finding → IfErr r (IsFindingUntold g b moves finding sink)
     → IfErr r (IsUnreviewed q b moves cert sink)
 unreviewed q g b moves cert sink finding (Ok status) same found untold = untold

@@ -3,7 +3,7 @@ use Rattle.std.proofs.Common.{◌≡◌, ◌∙◌, ◌⊎◌, inl, inr, ℕ, �
 use Rattle.std.specs.Prelude.{IsSomeAnd}
 use Rattle.fc_cards.specs.declared.places.Place.{Place}
 use Rattle.fc_cards.specs.declared.places.Place.TheVariants.{Column, Cell, Home}
-use Rattle.fc_position.specs.Board.{Board, lifted, placed}
+use Rattle.fc_position.specs.Board.{Board, board_without, board_with}
 use Rattle.fc_position.proofs.BoardLemmas.{homes-lifted}
 use Rattle.fc_moves.specs.declared.steps.Move.{Move}
 use Rattle.fc_moves.specs.GameRules.{GameRules, IsPositionOf}
@@ -21,10 +21,10 @@ use Rattle.fc_review.proofs.WeaveLemmas.{home_more}
 more_home : (g : GameRules) (b c : Board) (m : Move) (to : Place) → m.to ≡ to → IsPositionOf g b → Step g b m c → total b.homes ≤ total c.homes
 more_home g b c m Home same p step = let more = home_more g b c m p same step in omega (arith, more.0)
 more_home g b c m (Column j) same p step =
-    let after : c ≡ placed (lifted b m.from) step.card (Column j) = subst (λ to. c ≡ placed (lifted b m.from) step.card to) same step.after in
+    let after : c ≡ board_with (board_without b m.from) step.card (Column j) = subst (λ to. c ≡ board_with (board_without b m.from) step.card to) same step.after in
     let homes : c.homes ≡ b.homes = ap (λ x. x.homes) after ∙ homes-lifted b m.from in omega (arith, ap total homes)
 more_home g b c m (Cell j) same p step =
-    let after : c ≡ placed (lifted b m.from) step.card (Cell j) = subst (λ to. c ≡ placed (lifted b m.from) step.card to) same step.after in
+    let after : c ≡ board_with (board_without b m.from) step.card (Cell j) = subst (λ to. c ≡ board_with (board_without b m.from) step.card to) same step.after in
     let homes : c.homes ≡ b.homes = ap (λ x. x.homes) after ∙ homes-lifted b m.from in omega (arith, ap total homes)
 
 -- cards that go home by themselves are home then

@@ -14,7 +14,7 @@ use Rattle.fc_answers.specs.declared.answers.Answer.{Answer}
 use Rattle.fc_answers.specs.declared.answers.TheConstants.{MOST_MOVES}
 use Rattle.fc_answers.specs.declared.answers.Verdict.{Verdict}
 use Rattle.fc_answers.specs.declared.answers.Verdict.TheVariants.{Shortest, Won, CannotWin, GaveUp}
-use Rattle.fc_methods.specs.Method.{Asked}
+use Rattle.fc_methods.specs.Method.{QuestionData}
 use Rattle.fc_search.specs.Problem.{problem_of}
 use Rattle.fc_best.specs.Best.{IsBest, IsBestAnswer, IsBestVerdict, IsFloor}
 use Rattle.fc_best.specs.Watch.{floor_told}
@@ -32,7 +32,7 @@ unfolding some_or
 some_once m n same = ap (λ o. some_or o) same
 
 -- the floor that a best verdict tells is one
-floor_is : (q : Asked) (b : Board) (best : Verdict) (floor : ℕ) → IsBest q.game b q.method.strategy.budget best → floor_told best ≡ Some floor
+floor_is : (q : QuestionData) (b : Board) (best : Verdict) (floor : ℕ) → IsBest q.game b q.method.strategy.budget best → floor_told best ≡ Some floor
     → IsFloor q.game b floor
 floor_is q b (Shortest list) floor right same = subst (IsFloor q.game b) (some_once (length list) floor same) right.least
 floor_is q b (Won list told) floor right same = subst (IsFloor q.game b) (some_once told floor same) right.1
@@ -40,7 +40,7 @@ floor_is q b CannotWin floor right same = absurd (none-some floor same)
 floor_is q b (GaveUp up) floor right same = absurd (none-some floor same)
 
 -- where it tells none, though a list wins, it gave up
-pub gives_up : (q : Asked) (b : Board) (moves : List Move) (best : Verdict) → IsBestVerdict q b best → Wins q.game b moves → floor_told best ≡ None
+pub gives_up : (q : QuestionData) (b : Board) (moves : List Move) (best : Verdict) → IsBestVerdict q b best → Wins q.game b moves → floor_told best ≡ None
     → IsGivingUp best
 gives_up q b moves (Shortest list) is wins none = absurd (none-some _ (sym none))
 gives_up q b moves (Won list told) is wins none = absurd (none-some _ (sym none))
@@ -48,7 +48,7 @@ gives_up q b moves CannotWin is wins none = absurd (is.right moves wins)
 gives_up q b moves (GaveUp up) is wins none = (up, refl)
 
 -- what the floor says of the list is right
-says_right : (q : Asked) (b : Board) (moves : List Move) (floor : ℕ) (own : Verdict) → Wins q.game b moves → IsFloor q.game b floor
+says_right : (q : QuestionData) (b : Board) (moves : List Move) (floor : ℕ) (own : Verdict) → Wins q.game b moves → IsFloor q.game b floor
     → SaysAbove moves floor own → IsOwnVerdict q b moves own
 says_right q b moves floor own wins least (inl (short, same)) =
     subst (IsOwnVerdict q b moves) (sym same) (
@@ -60,12 +60,12 @@ says_right q b moves floor own wins least (inl (short, same)) =
     )
 says_right q b moves floor own wins least (inr (long, same)) = subst (IsOwnVerdict q b moves) (sym same) (refl, (wins, least, long))
 
-pub own_right : (q : Asked) (b : Board) (moves : List Move) (best own : Verdict) (floor : ℕ) → IsBestVerdict q b best → Wins q.game b moves
+pub own_right : (q : QuestionData) (b : Board) (moves : List Move) (best own : Verdict) (floor : ℕ) → IsBestVerdict q b best → Wins q.game b moves
     → floor_told best ≡ Some floor → SaysAbove moves floor own → IsOwnVerdict q b moves own
 own_right q b moves best own floor is wins told says = says_right q b moves floor own wins (floor_is q b best floor is.right told) says
 
 -- what is told of a list, or that the searches gave up
-pub own_told : (q : Asked) (b : Board) (moves : List Move) (best : Verdict) (own : Option Verdict) → IsBestVerdict q b best → Wins q.game b moves
+pub own_told : (q : QuestionData) (b : Board) (moves : List Move) (best : Verdict) (own : Option Verdict) → IsBestVerdict q b best → Wins q.game b moves
     → MatchOption own (floor_told best ≡ None) (λ verdict. (floor : ℕ) × (floor_told best ≡ Some floor) × SaysAbove moves floor verdict)
     → MatchOption own (IsGivingUp best) (IsOwnVerdict q b moves)
 own_told q b moves best None is wins none = gives_up q b moves best is wins none
@@ -116,7 +116,7 @@ own_few : (moves : List Move) (floor : ℕ) (own : Verdict) → length moves ≤
 own_few moves floor own few (inl (short, same)) = subst HasFewMoves (sym same) few
 own_few moves floor own few (inr (long, same)) = subst HasFewMoves (sym same) few
 
-pub own_certifiable : (q : Asked) (b : Board) (moves : List Move) (answer : Answer) (own : Verdict) (floor : ℕ) → IsBestAnswer q b answer
+pub own_certifiable : (q : QuestionData) (b : Board) (moves : List Move) (answer : Answer) (own : Verdict) (floor : ℕ) → IsBestAnswer q b answer
     → IsBacked q.game b answer → Wins q.game b moves → All HasText moves → length moves ≤ MOST_MOVES → floor_told answer.verdict ≡ Some floor
     → SaysAbove moves floor own → IsCertifiable (problem_of q b) (record { verdict = own; table = answer.table })
 own_certifiable q b moves answer own floor best backed wins texts few told says =

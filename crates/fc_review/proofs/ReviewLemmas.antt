@@ -11,7 +11,7 @@ use Rattle.fc_moves.specs.GameRules.{GameRules}
 use Rattle.fc_moves.specs.Run.{Run, Wins}
 use Rattle.fc_answers.specs.declared.answers.Verdict.{Verdict}
 use Rattle.fc_answers.specs.declared.answers.Verdict.TheVariants.{Shortest, Won, CannotWin, GaveUp}
-use Rattle.fc_methods.specs.Method.{Asked}
+use Rattle.fc_methods.specs.Method.{QuestionData}
 use Rattle.fc_best.specs.Best.{IsBestVerdict}
 use Rattle.fc_review.specs.Review.{IsBoardAfter, IsKnownAlong, IsLostAfter, IsOpenAfter, IsReview, IsUnsettled, IsWonAfter, Loses, TellsList, first_behind}
 use Rattle.fc_review.specs.declared.known_boards.KnownBoard.{KnownBoard}
@@ -33,13 +33,13 @@ front_of_run h g b n all front game (d, run) same =
     (on.0, subst (λ x. Run x b front on.0) (sym game) (subst (λ l. Run g b l on.0) (sym same) on.1))
 
 -- a best verdict that none wins says so
-lost_known : (q : Asked) (b : Board) (moves : List Move) (known : KnownBoard) → IsKnownAlong q b moves known → known.verdict ≡ CannotWin
+lost_known : (q : QuestionData) (b : Board) (moves : List Move) (known : KnownBoard) → IsKnownAlong q b moves known → known.verdict ≡ CannotWin
     → IsLostAfter q.game b moves known.after
 lost_known q b moves known is lost =
     let best = subst (λ v. IsBestVerdict q is.board v) lost is.best in (is.board, is.after, best.right)
 
 -- and one that gave up
-open_known : (q : Asked) (b : Board) (moves : List Move) (known : KnownBoard) (told : ℕ) → IsKnownAlong q b moves known → known.verdict ≡ GaveUp told
+open_known : (q : QuestionData) (b : Board) (moves : List Move) (known : KnownBoard) (told : ℕ) → IsKnownAlong q b moves known → known.verdict ≡ GaveUp told
     → IsOpenAfter q b moves known.after
 open_known q b moves known told is up = (is.board, is.after, (told, subst (λ v. IsBestVerdict q is.board v) up is.best))
 
@@ -58,20 +58,20 @@ gave_up CannotWin fine none = absurd fine
 gave_up (GaveUp told) fine none = (told, refl)
 
 -- a list that is told wins
-wins_told : (q : Asked) (b : Board) (verdict : Verdict) → IsBestVerdict q b verdict → TellsList verdict → (list : List Move) × Wins q.game b list
+wins_told : (q : QuestionData) (b : Board) (verdict : Verdict) → IsBestVerdict q b verdict → TellsList verdict → (list : List Move) × Wins q.game b list
 wins_told q b (Shortest moves) best told = (moves, best.right.wins)
 wins_told q b (Won moves floor) best told = (moves, best.right.0)
 wins_told q b CannotWin best told = absurd told
 wins_told q b (GaveUp up) best told = absurd told
 
 -- a board that isn't lost and from which no list is told gave up
-pub open_up_to : (q : Asked) (b : Board) (moves : List Move) (known : KnownBoard) (lost : Option ℕ) → IsKnownAlong q b moves known → IsNoLoss known.verdict
+pub open_up_to : (q : QuestionData) (b : Board) (moves : List Move) (known : KnownBoard) (lost : Option ℕ) → IsKnownAlong q b moves known → IsNoLoss known.verdict
     → (TellsList known.verdict → ⊥) → IsLostBehind q.game b moves known.after lost → IsOpenUpTo q b moves lost
 open_up_to q b moves known lost is fine none behind =
     let up = gave_up known.verdict fine none in (known.after, behind, open_known q b moves known up.0 is up.1)
 
 -- where lists cease to be told
-edge_won : (q : Asked) (b : Board) (moves : List Move) (edge : Edge) (before : Option KnownBoard) → edge.before ≡ before → IsEdge q b moves OfLists edge
+edge_won : (q : QuestionData) (b : Board) (moves : List Move) (edge : Edge) (before : Option KnownBoard) → edge.before ≡ before → IsEdge q b moves OfLists edge
     → IfSome before (IsWonAfter q b moves) × (edge.behind.after ≡ first_behind before)
 edge_won q b moves edge None same is =
     (tt, subst (λ o. MatchOption o (edge.behind.after ≡ 0) (λ k. IsKnownAlong q b moves k × IsAsWanted OfLists k.verdict × (edge.behind.after ≡ k.after + 1))) same is.before)
@@ -79,7 +79,7 @@ edge_won q b moves edge (Some known) same is =
     let on = subst (λ o. MatchOption o (edge.behind.after ≡ 0) (λ k. IsKnownAlong q b moves k × IsAsWanted OfLists k.verdict × (edge.behind.after ≡ k.after + 1))) same is.before in
     ((on.0, on.1), on.2)
 
-pub review_lost : (q : Asked) (b : Board) (moves : List Move) (edge : Edge) → IsEdge q b moves OfLists edge → edge.behind.verdict ≡ CannotWin
+pub review_lost : (q : QuestionData) (b : Board) (moves : List Move) (edge : Edge) → IsEdge q b moves OfLists edge → edge.behind.verdict ≡ CannotWin
     → IsReview q b moves (record { won = edge.before; lost = Some edge.behind.after })
 review_lost q b moves edge is lost =
     let on = edge_won q b moves edge edge.before refl is in
@@ -97,17 +97,17 @@ not_lost (Won moves floor) none fine = absurd (none tt)
 not_lost CannotWin none fine = absurd (fine refl)
 not_lost (GaveUp told) none fine = (told, refl)
 
-lost_up_to : (q : Asked) (b : Board) (moves : List Move) (lost : Option ℕ) → IsOpenUpTo q b moves lost → IfSome lost (IsLostAfter q.game b moves)
+lost_up_to : (q : QuestionData) (b : Board) (moves : List Move) (lost : Option ℕ) → IsOpenUpTo q b moves lost → IfSome lost (IsLostAfter q.game b moves)
 lost_up_to q b moves None up = tt
 lost_up_to q b moves (Some n) (after, (place, lost), up) = lost
 
-before_up_to : (q : Asked) (b : Board) (moves : List Move) (won : Option KnownBoard) (lost : Option ℕ) → IsOpenUpTo q b moves lost
+before_up_to : (q : QuestionData) (b : Board) (moves : List Move) (won : Option KnownBoard) (lost : Option ℕ) → IsOpenUpTo q b moves lost
     → MatchOption lost ((first_behind won ≡ length moves + 1) ⊎ IsOpenAfter q b moves (length moves))
     (λ n. (n ≡ first_behind won) ⊎ ((count : ℕ) × (n ≡ count + 1) × IsOpenAfter q b moves count))
 before_up_to q b moves won None (after, last, up) = inr (subst (IsOpenAfter q b moves) last up)
 before_up_to q b moves won (Some n) (after, (place, lost), up) = inr (after, place, up)
 
-pub review_open : (q : Asked) (b : Board) (moves : List Move) (edge : Edge) (lost : Option ℕ) → IsEdge q b moves OfLists edge
+pub review_open : (q : QuestionData) (b : Board) (moves : List Move) (edge : Edge) (lost : Option ℕ) → IsEdge q b moves OfLists edge
     → (edge.behind.verdict ≡ CannotWin → ⊥) → IsOpenUpTo q b moves lost → IsReview q b moves (record { won = edge.before; lost = lost })
 review_open q b moves edge lost is fine up =
     let on = edge_won q b moves edge edge.before refl is in
@@ -120,7 +120,7 @@ review_open q b moves edge lost is fine up =
     }
 
 -- the move between a board from which a list wins and a lost one loses
-pub loses : (q : Asked) (b : Board) (moves : List Move) (known : KnownBoard) (n : ℕ) → IsWonAfter q b moves known → IsLostAfter q.game b moves n
+pub loses : (q : QuestionData) (b : Board) (moves : List Move) (known : KnownBoard) (n : ℕ) → IsWonAfter q b moves known → IsLostAfter q.game b moves n
     → n ≡ known.after + 1 → Loses q.game b moves known.after
 loses q b moves known n (is, tells) lost place = record {
   before = is.board;
@@ -133,7 +133,7 @@ zero_past : (n : ℕ) → 0 ≡ n + 1 → ⊥
 zero_past n same = omega (arith, same)
 
 -- it isn't known which move loses, by the board behind the last won one
-at_behind : (q : Asked) (b : Board) (moves : List Move) (won : Option KnownBoard) (lost : Option ℕ) → IfSome won (IsWonAfter q b moves)
+at_behind : (q : QuestionData) (b : Board) (moves : List Move) (won : Option KnownBoard) (lost : Option ℕ) → IfSome won (IsWonAfter q b moves)
     → IfSome lost (IsLostAfter q.game b moves)
     → (lost ≡ Some (first_behind won)) ⊎ ((first_behind won ≡ length moves + 1) ⊎ IsOpenAfter q b moves (first_behind won))
     → ((known : KnownBoard) → won ≡ Some known → lost ≡ Some (known.after + 1) → ⊥) → IsUnsettled q b moves
@@ -144,7 +144,7 @@ at_behind q b moves (Some known) lost is none (inl next) fine = absurd (fine kno
 at_behind q b moves (Some known) lost is none (inr (inl last)) fine = inl (known, is, omega (arith, last))
 
 -- where it isn't known which move loses
-pub unsettled : (q : Asked) (b : Board) (moves : List Move) (review : Review) (won : Option KnownBoard) (lost : Option ℕ) → review.won ≡ won → review.lost ≡ lost
+pub unsettled : (q : QuestionData) (b : Board) (moves : List Move) (review : Review) (won : Option KnownBoard) (lost : Option ℕ) → review.won ≡ won → review.lost ≡ lost
     → IsReview q b moves review → ((known : KnownBoard) → won ≡ Some known → lost ≡ Some (known.after + 1) → ⊥) → IsUnsettled q b moves
 unsettled q b moves review won lost same-won same-lost is none = at_behind q b moves won lost
     (subst (λ w. IfSome w (IsWonAfter q b moves)) same-won is.won)
@@ -170,17 +170,17 @@ same_count : (m n : ℕ) → Some m ≡ Some n → m ≡ n
 unfolding count_or
 same_count m n same = ap count_or same
 
-pub unsettled_between : (q : Asked) (b : Board) (moves : List Move) (review : Review) (won : KnownBoard) (n : ℕ) → review.won ≡ Some won
+pub unsettled_between : (q : QuestionData) (b : Board) (moves : List Move) (review : Review) (won : KnownBoard) (n : ℕ) → review.won ≡ Some won
     → review.lost ≡ Some n → (n ≡ won.after + 1 → ⊥) → IsReview q b moves review → IsUnsettled q b moves
 unsettled_between q b moves review won n same-won same-lost apart is = unsettled q b moves review (Some won) (Some n) same-won same-lost is
     (λ known same next. apart (same_count n (known.after + 1) next ∙ ap (λ a. a + 1) (sym (same_after won known same))))
 
-pub unsettled_won : (q : Asked) (b : Board) (moves : List Move) (review : Review) (won : KnownBoard) → review.won ≡ Some won → review.lost ≡ None
+pub unsettled_won : (q : QuestionData) (b : Board) (moves : List Move) (review : Review) (won : KnownBoard) → review.won ≡ Some won → review.lost ≡ None
     → IsReview q b moves review → IsUnsettled q b moves
 unsettled_won q b moves review won same-won same-lost is = unsettled q b moves review (Some won) None same-won same-lost is
     (λ known same next. none-some (known.after + 1) next)
 
-pub unsettled_none : (q : Asked) (b : Board) (moves : List Move) (review : Review) → review.won ≡ None → IsReview q b moves review
+pub unsettled_none : (q : QuestionData) (b : Board) (moves : List Move) (review : Review) → review.won ≡ None → IsReview q b moves review
     → IsUnsettled q b moves
 unsettled_none q b moves review same-won is = unsettled q b moves review None review.lost same-won refl is (λ known same next. none-some known same)
 

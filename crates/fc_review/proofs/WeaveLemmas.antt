@@ -1,13 +1,13 @@
 -- Moves home, one by one.
 use Rattle.std.proofs.Common.{◌≡◌, ◌∙◌, ◌⊎◌, inl, inr, ℕ, ◌+◌, ◌<◌, ◌≤◌, Option, Some, None, List, [], ◌∷◌, ◌++◌, length, drop, get_or, refl, sym, subst, ap, arith, length-drop, ⊎_elim}
-use Rattle.std.specs.Prelude.{All, Contains, IfNone, IfSome, IsSome, slice_set, IsSomeAnd}
+use Rattle.std.specs.Prelude.{All, Contains, IfNone, IfSome, IsSome, slice_set}
 use Rattle.std.proofs.lemmas.Bool.{false≢true, cases_lt}
 use Rattle.std.proofs.lemmas.List.{drop_all, get_or_default}
 use Rattle.std.proofs.lemmas.Option.{none-some}
 use Rattle.std.proofs.lemmas.List.Elements.{All-append, All-cons, All-nil}
 use Rattle.fc_cards.specs.Card.{rank, suit}
 use Rattle.fc_cards.specs.declared.places.Place.TheVariants.{Home}
-use Rattle.fc_position.specs.Board.{Board, IsNext, lifted, placed}
+use Rattle.fc_position.specs.Board.{Board, IsNext, board_without, board_with}
 use Rattle.fc_position.proofs.BoardLemmas.{homes-lifted}
 use Rattle.fc_moves.specs.declared.steps.Move.{Move}
 use Rattle.fc_moves.specs.GameRules.{GameRules, IsPositionOf}
@@ -20,13 +20,14 @@ use Rattle.fc_search.proofs.AnswerLemmas.{run_texts}
 use Rattle.fc_home.proofs.SettleLemmas.{total, total-most, total-next}
 use Rattle.fc_position.specs.Position.{IsWon}
 use Rattle.fc_review.specs.Weaving.{EndsAtHome, IsMoveHome, IsRefusedMove, IsWoven, AllowsNoMoveHome, Weaves, begins, goes_on, sends_home, IsWayHome, MakesWay}
+use Rattle.fc_review.specs.inner.Ways.{SomeMakesWay}
 
 -- a move home has one card more home, of 52
 pub home_more : (g : GameRules) (b c : Board) (m : Move) → IsPositionOf g b → IsMoveHome m → Step g b m c
     → (total c.homes ≡ total b.homes + 1) × (total b.homes < 52)
 home_more g b c m p home step =
     let takes : IsNext b.homes step.card = subst (λ to. Takes g b step.card to) home step.takes in
-    let after : c ≡ placed (lifted b m.from) step.card Home = subst (λ to. c ≡ placed (lifted b m.from) step.card to) home step.after in
+    let after : c ≡ board_with (board_without b m.from) step.card Home = subst (λ to. c ≡ board_with (board_without b m.from) step.card to) home step.after in
     let homes : c.homes ≡ slice_set b.homes (suit step.card) (rank step.card) =
     ap (λ x. x.homes) after ∙ ap (λ h. slice_set h (suit step.card) (rank step.card)) (homes-lifted b m.from) in
     let more : total c.homes ≡ total b.homes + 1 = ap total homes ∙ total-next b.homes step.card p.position.homes takes in
@@ -135,10 +136,10 @@ woven_at g b list front homes part moves here i all woven ended parts same = rec
 
 -- where a move home among those so far makes way, the chosen one does
 pub way_on : (g : GameRules) (b : Board) (list : List Move) (i k : ℕ) (before result : Option Move) (d e w : Move) → i < length list
-    → (IsSomeAnd before (λ home. MakesWay g b home w) ⊎ (IsMoveHome (get_or list i e) × MakesWay g b (get_or list i e) w)
-    → IsSomeAnd result (λ home. MakesWay g b home w))
-    → ((j : ℕ) (f : Move) → j < i → IsMoveHome (get_or list j f) → MakesWay g b (get_or list j f) w → IsSomeAnd before (λ home. MakesWay g b home w))
-    → k < i + 1 → IsMoveHome (get_or list k d) → MakesWay g b (get_or list k d) w → IsSomeAnd result (λ home. MakesWay g b home w)
+    → (SomeMakesWay g b before w ⊎ (IsMoveHome (get_or list i e) × MakesWay g b (get_or list i e) w)
+    → SomeMakesWay g b result w)
+    → ((j : ℕ) (f : Move) → j < i → IsMoveHome (get_or list j f) → MakesWay g b (get_or list j f) w → SomeMakesWay g b before w)
+    → k < i + 1 → IsMoveHome (get_or list k d) → MakesWay g b (get_or list k d) w → SomeMakesWay g b result w
 way_on g b list i k before result d e w within next so below goes makes =
     ⊎_elim (λ less. next (inl (so k d less goes makes)))
     (λ more.
@@ -150,7 +151,7 @@ way_on g b list i k before result d e w within next so below goes makes =
 -- where any move home makes way, the chosen one does
 pub way_left : (g : GameRules) (b : Board) (list : List Move) (i : ℕ) (chosen : Option Move) (w : Move) → ListsMoves g b list → length list ≤ i
     → IfSome chosen (λ m. IsMoveHome m × Allows g b m)
-    → ((j : ℕ) (f : Move) → j < i → IsMoveHome (get_or list j f) → MakesWay g b (get_or list j f) w → IsSomeAnd chosen (λ home. MakesWay g b home w))
+    → ((j : ℕ) (f : Move) → j < i → IsMoveHome (get_or list j f) → MakesWay g b (get_or list j f) w → SomeMakesWay g b chosen w)
     → IfSome chosen (IsWayHome g b w)
 way_left g b list i None w lists all good so = tt
 way_left g b list i (Some m) w lists all good so = (

@@ -8,7 +8,7 @@ use Rattle.fc_moves.specs.MoveText.{move_text}
 use Rattle.fc_moves.specs.Run.{Wins}
 use Rattle.fc_replay.specs.Telling.{move_phrase, told_move}
 use Rattle.fc_answers.specs.declared.answers.TheConstants.{MOST_MOVES}
-use Rattle.fc_methods.specs.Method.{Asked}
+use Rattle.fc_methods.specs.Method.{QuestionData}
 use Rattle.fc_board_runs.specs.declared.faults.Output.TheVariants.{Answer as of_answer}
 use Rattle.fc_board_runs.specs.declared.faults.ProgramFault.{ProgramFault}
 use Rattle.fc_board_runs.specs.declared.faults.ProgramFault.TheVariants.{Memory, Write}
@@ -23,7 +23,7 @@ use Rattle.fc_review.specs.declared.reviews.Review.{Review}
 
 -- of a list that wins, how good it is, and how many of its entries are by hand; of one that doesn't, or that has more moves than an
 -- answer may have, what is known of its boards. A sink of certificates takes one of a list that wins alone
-abbrev pub IsFinding : Asked → Board → List Move → Option Device → Finding → Type 0
+abbrev pub IsFinding : QuestionData → Board → List Move → Option Device → Finding → Type 0
 IsFinding q b moves cert (Rated rating by_hand) = Wins q.game b moves × IsRating q b moves cert rating × IsByHand q.method.rule q.game b moves by_hand
 IsFinding q b moves cert (Traced review) = (Wins q.game b moves → MOST_MOVES < length moves) × IsReview q b moves review × IfSome cert IsUntouched
 
@@ -61,10 +61,10 @@ IsFindingUntold g b moves finding sink (Write of_answer) = (text : List ℕ) × 
 IsFindingUntold g b moves finding sink other = ⊥
 
 -- a list was reviewed: something is found of it, and told
-abbrev pub IsReviewed : Asked → Board → List Move → Option Device → Device → ℕ → Type 0
+abbrev pub IsReviewed : QuestionData → Board → List Move → Option Device → Device → ℕ → Type 0
 IsReviewed q b moves cert sink status = (finding : Finding) × IsFinding q b moves cert finding × IsFindingTold q.game b moves finding sink status
 
 -- why a list wasn't reviewed: nothing is found of it, and no line is written; or what is found isn't told
-abbrev pub IsUnreviewed : Asked → Board → List Move → Option Device → Device → ProgramFault → Type 0
+abbrev pub IsUnreviewed : QuestionData → Board → List Move → Option Device → Device → ProgramFault → Type 0
 IsUnreviewed q b moves cert sink fault = (IsUnrated q b moves cert fault × IsUntouched sink)
     ⊎ ((finding : Finding) × IsFinding q b moves cert finding × IsFindingUntold q.game b moves finding sink fault)

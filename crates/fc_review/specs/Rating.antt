@@ -4,7 +4,7 @@ use Rattle.fc_position.specs.Board.{Board}
 use Rattle.fc_moves.specs.declared.steps.Move.{Move}
 use Rattle.fc_answers.specs.declared.answers.Verdict.{Verdict}
 use Rattle.fc_answers.specs.declared.answers.Verdict.TheVariants.{Shortest, Won, CannotWin, GaveUp}
-use Rattle.fc_methods.specs.Method.{Asked}
+use Rattle.fc_methods.specs.Method.{QuestionData}
 use Rattle.fc_search.specs.Problem.{problem_of}
 use Rattle.fc_best.specs.Best.{IsBest, IsBestVerdict}
 use Rattle.fc_board_runs.specs.declared.faults.Output.TheVariants.{Cert as of_certificate}
@@ -22,7 +22,7 @@ SaysOf moves CannotWin = ⊥
 SaysOf moves (GaveUp told) = ⊥
 
 -- what is told of the list is right: it says of that very list what a best verdict may say of one
-abbrev pub IsOwnVerdict : Asked → Board → List Move → Verdict → Type 0
+abbrev pub IsOwnVerdict : QuestionData → Board → List Move → Verdict → Type 0
 IsOwnVerdict q b moves verdict = SaysOf moves verdict × IsBest q.game b q.method.strategy.budget verdict
 
 -- a verdict gave up
@@ -31,13 +31,13 @@ IsGivingUp verdict = (told : ℕ) × (verdict ≡ GaveUp told)
 
 -- the best answer of the board, and what its floor says of the list, unless the searches gave up; a sink of certificates, where there
 -- is one, took that of the list, and of giving up nothing
-pub record IsRating (q : Asked) (b : Board) (moves : List Move) (cert : Option Device) (rating : Rating) : Type 0 where
+pub record IsRating (q : QuestionData) (b : Board) (moves : List Move) (cert : Option Device) (rating : Rating) : Type 0 where
   pub best : IsBestVerdict q b rating.best
   pub own : MatchOption rating.own (IsGivingUp rating.best) (IsOwnVerdict q b moves)
   pub certified : IfSome cert (λ sink. MatchOption rating.own (IsUntouched sink) (λ own. IsCertified (problem_of q b) own sink))
 
 -- why a list isn't rated: a growth was refused, and nothing is written; or its certificate couldn't be written
-abbrev pub IsUnrated : Asked → Board → List Move → Option Device → ProgramFault → Type 0
+abbrev pub IsUnrated : QuestionData → Board → List Move → Option Device → ProgramFault → Type 0
 IsUnrated q b moves cert Memory = IfSome cert IsUntouched
 IsUnrated q b moves cert (Write of_certificate) = (own : Verdict) × IsOwnVerdict q b moves own
     × ((lent : Device) × (cert ≡ Some lent) × IsCutShort (problem_of q b) own lent)

@@ -2,3 +2,4 @@
 pub mod Edge
 pub mod Goers
 pub mod Own
+pub mod Ways

@@ -4,7 +4,7 @@ ghost use Rattle.std.specs.Prelude.{◌≡◌, IfOk, IfSome, IfNone, List};
 ghost use Rattle.fc_position.specs.Board.{Board};
 ghost use Rattle.fc_moves.specs.GameRules.{IsPositionOf};
 ghost use Rattle.fc_moves.specs.Run.{Run};
-ghost use Rattle.fc_methods.specs.Method.{Asked};
+ghost use Rattle.fc_methods.specs.Method.{QuestionData};
 ghost use Rattle.fc_moves.specs.declared.steps.Move.{Move};
 ghost use Rattle.fc_review.specs.Review.{IsKnownAlong, IsReview, IsUnsettled, Loses};
 ghost use Rattle.fc_review.specs.Texts.{losing_of};
@@ -33,8 +33,8 @@ impl Review {
     /// none from the board after it.
     pub fn losing_move(&self) -> Option<usize>
         ensures value { result ≡ losing_of self.now.won self.now.lost }
-        ensures loses { (q : Asked) (b : Board) (moves : List Move) → IsReview q b moves self.now → IfSome result (Loses q.game b moves) }
-        ensures known { (q : Asked) (b : Board) (moves : List Move) → IsReview q b moves self.now → IfNone result (IsUnsettled q b moves) }
+        ensures loses { (q : QuestionData) (b : Board) (moves : List Move) → IsReview q b moves self.now → IfSome result (Loses q.game b moves) }
+        ensures known { (q : QuestionData) (b : Board) (moves : List Move) → IsReview q b moves self.now → IfNone result (IsUnsettled q b moves) }
     {
         match (&self.won, self.lost) {
             (Some(won), Some(lost)) if won.after < lost && lost - won.after == 1 => Some(won.after),
@@ -99,7 +99,7 @@ fn won_up_to<G: Game + Drop>(
 
 // The review of a list by where lists cease to be told, before a board that gave up, and by what is behind that.
 fn review_at(edge: Edge, lost: Option<usize>) -> Review
-    ensures review { (q : Asked) (b : Board) (moves : List Move) → IsEdge q b moves wanted.List edge → IsOpenUpTo q b moves lost
+    ensures review { (q : QuestionData) (b : Board) (moves : List Move) → IsEdge q b moves wanted.List edge → IsOpenUpTo q b moves lost
         → IsReview q b moves result }
 {
     let Edge { before, behind } = edge;

@@ -1,6 +1,6 @@
 //! Lists that leave out moves home, as programs print them whose cards go home by themselves.
 
-ghost use Rattle.std.specs.Prelude.{◌≡◌, ◌⊎◌, ◌<◌, ◌^◌, List, [], ◌∷◌, ◌++◌, All, IfOk, IfErr, IfSome, IfNone, IsSome, Some, OnOk, length, ◌↔◌, IsSomeAnd, IsTrue};
+ghost use Rattle.std.specs.Prelude.{◌≡◌, ◌⊎◌, ◌<◌, ◌^◌, List, [], ◌∷◌, ◌++◌, All, IfOk, IfErr, IfSome, IfNone, IsSome, Some, OnOk, length, ◌↔◌, IsTrue};
 ghost use Rattle.fc_position.specs.Board.{Board};
 ghost use Rattle.fc_moves.specs.declared.steps.Move.{Move};
 ghost use Rattle.fc_moves.specs.GameRules.{IsPositionOf};
@@ -8,6 +8,7 @@ ghost use Rattle.fc_moves.specs.MoveText.{HasText};
 ghost use Rattle.fc_moves.specs.Run.{Run};
 ghost use Rattle.fc_moves.specs.Step.{Allows};
 ghost use Rattle.fc_review.specs.Weaving.{EndsAtHome, IsMoveHome, IsWayHome, IsWeaveFault, IsWoven, MakesWay, AllowsNoMoveHome, Weaves};
+ghost use Rattle.fc_review.specs.inner.Ways.{SomeMakesWay};
 
 use fc_cards::Place;
 use fc_moves::{Game, Move, allows, apply, moves};
@@ -144,8 +145,8 @@ fn home_of<G: Game>(
     requires allowed { Allows (G.game game.now) position.now m }
     ensures chosen { ((result ≡ before) × (IsMoveHome m → IsSome before)) ⊎ ((result ≡ Some m) × IsMoveHome m) }
     ensures way { (w : Move) → wanted ≡ Some w
-        → IsSomeAnd before (λ home. MakesWay (G.game game.now) position.now home w) ⊎ (IsMoveHome m × MakesWay (G.game game.now) position.now m w)
-        → IsSomeAnd result (λ home. MakesWay (G.game game.now) position.now home w) }
+        → SomeMakesWay (G.game game.now) position.now before w ⊎ (IsMoveHome m × MakesWay (G.game game.now) position.now m w)
+        → SomeMakesWay (G.game game.now) position.now result w }
 {
     let Place::Home = m.to else {
         return before;

@@ -16,10 +16,10 @@ use Rattle.fc_best_first.specs.declared.turns.Status.TheVariants.{Running}
 use Rattle.fc_best_first.specs.Graph.{Task}
 use Rattle.fc_best_first.specs.Search.{Begins, Turns, TurnsOn}
 use Rattle.fc_best_first.specs.Store.{Store}
-use Rattle.fc_methods.specs.Method.{Asked}
+use Rattle.fc_methods.specs.Method.{QuestionData}
 use Rattle.fc_search.specs.Problem.{Problem, problem_of, task_of_problem}
 use Rattle.fc_search.specs.Search.{State}
-use Rattle.fc_batch.specs.Batch.{Batch, HasTurn, HasTurns, OthersStay, TurnFor, TurnsFor, running, search_at, times}
+use Rattle.fc_batch.specs.Batch.{Batch, HasTurn, HasTurns, OthersStay, TurnFor, TurnsFor, count_if_running, search_at, times}
 use Rattle.fc_batch.proofs.BatchLemmas.{stays_self}
 use Rattle.fc_batch.proofs.LawLemmas.{turn_alone}
 use Rattle.fc_board_runs.specs.Devices.{Device}
@@ -43,7 +43,7 @@ module _ {K : Type 0} (task : Task K) where
       (next, then, told, one, turns_more turns then between after next mid new reply rest turn)
 
 -- a search that began for a deal, and had no turn
-pub search_begun : (q : Asked) (deal : ℕ) (s : State) → s.problem ≡ problem_of q (dealt_board deal) → s.status ≡ Running
+pub search_begun : (q : QuestionData) (deal : ℕ) (s : State) → s.problem ≡ problem_of q (dealt_board deal) → s.status ≡ Running
     → Begins (task_of_problem s.problem) s.store → IsSearchOf q deal s
 search_begun q deal s asked begun begins = record {
   problem = asked;
@@ -55,7 +55,7 @@ search_begun q deal s asked begun begins = record {
 }
 
 -- a search of a deal that has one more turn is the search of that deal still
-one_turn_on : (q : Asked) (deal : ℕ) (old new : State) (reply : Result Step SearchFault) → HasTurn old new reply
+one_turn_on : (q : QuestionData) (deal : ℕ) (old new : State) (reply : Result Step SearchFault) → HasTurn old new reply
     → IsSearchOf q deal old → IsSearchOf q deal new
 one_turn_on q deal old new reply turn search = record {
   problem = turn.problem ∙ search.problem;
@@ -72,14 +72,14 @@ one_turn_on q deal old new reply turn search = record {
   };
 }
 
-turns_on : (q : Asked) (deal : ℕ) (turns : ℕ) (old new : State) → HasTurns turns old new
+turns_on : (q : QuestionData) (deal : ℕ) (turns : ℕ) (old new : State) → HasTurns turns old new
     → IsSearchOf q deal old → IsSearchOf q deal new
 turns_on q deal zero old new same search = subst (IsSearchOf q deal) (sym same) search
 turns_on q deal (suc turns) old new (mid, reply, turn, rest) search =
     turns_on q deal turns mid new rest (one_turn_on q deal old mid reply turn search)
 
 -- turns of the searches of a batch leave it with the searches of its deals
-pub held_on : (q : Asked) (from count : ℕ) (list : List ℕ) (old new : Batch) (replies : ℕ) → TurnsFor list old new replies
+pub held_on : (q : QuestionData) (from count : ℕ) (list : List ℕ) (old new : Batch) (replies : ℕ) → TurnsFor list old new replies
     → HoldsDeals q from count old → HoldsDeals q from count new
 held_on q from count list old new replies turns holds i within =
     let before = holds i within in
@@ -88,13 +88,13 @@ held_on q from count list old new replies turns holds i within =
 
 -- one turn, as turns for a list of one number
 one_turn : (number : ℕ) (old new : Batch) (reply : Result Step SearchFault) → TurnFor number old new reply
-    → TurnsFor (number ∷ []) old new (running reply + 0)
+    → TurnsFor (number ∷ []) old new (count_if_running reply + 0)
 one_turn number old new reply turn = (new, reply, 0, turn, (stays_self new, refl), refl)
 
-pub one_held : (q : Asked) (from count number : ℕ) (old new : Batch) (reply : Result Step SearchFault)
+pub one_held : (q : QuestionData) (from count number : ℕ) (old new : Batch) (reply : Result Step SearchFault)
     → TurnFor number old new reply → HoldsDeals q from count old → HoldsDeals q from count new
 one_held q from count number old new reply turn =
-    held_on q from count (number ∷ []) old new (running reply + 0) (one_turn number old new reply turn)
+    held_on q from count (number ∷ []) old new (count_if_running reply + 0) (one_turn number old new reply turn)
 
 -- with the search of the next number, all below it have ended
 pub ended_more : (count : ℕ) (old new : Batch) → HaveEnded count old → OthersStay count old new
@@ -196,7 +196,7 @@ all_told is_right from count sink status all sound = record {
 }
 
 -- a batch to which the search of the next deal was added
-pub held_more : (q : Asked) (from count : ℕ) (old new : Batch) (search : State) → HoldsDeals q from count old
+pub held_more : (q : QuestionData) (from count : ℕ) (old new : Batch) (search : State) → HoldsDeals q from count old
     → OthersStay count old new → search_at new count ≡ Some search → IsSearchOf q (from + count) search
     → HoldsDeals q from (count + 1) new
 held_more q from count old new search holds others there here i within =

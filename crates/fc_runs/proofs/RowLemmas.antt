@@ -12,10 +12,10 @@ use Rattle.fc_answers.specs.Verdict.{IsRight, outcome_of}
 use Rattle.fc_best.specs.Answering.{HearsOfThem, HearsVerdict, IsSought, IsVerdictFor}
 use Rattle.fc_best.specs.Best.{IsBest, IsFloor}
 use Rattle.fc_best.specs.Watch.{IsSo, IsTold}
-use Rattle.fc_methods.specs.Method.{Asked}
+use Rattle.fc_methods.specs.Method.{QuestionData}
 use Rattle.fc_search.specs.declared.listeners.Progress.{Progress}
 use Rattle.fc_search.specs.Problem.{problem_of}
-use Rattle.fc_search.specs.Watch.{Better, Far as how_far, Heard, HearsAll, HearsFar, TellFloors}
+use Rattle.fc_search.specs.Watch.{Better, Far as how_far, Report, HearsAll, HearsFar, TellFloors}
 use Rattle.fc_search.proofs.EndLemmas.{at_most_floors}
 use Rattle.fc_board_runs.specs.Devices.{Device, IsUntouched}
 use Rattle.fc_runs.specs.declared.answer_rows.Far.{Far}
@@ -45,18 +45,18 @@ heard_last old new [] same some = absurd (some refl)
 heard_last old new (far ∷ heard) (mid, keeps, rest) some = kept mid new heard rest (subst IsSome (sym keeps) refl)
 
 -- so does who hears of the searches for a best answer
-best_kept : (old new : Last) (heard : List Heard) → HearsAll KeepsFar old heard new → IsSome old.far → IsSome new.far
+best_kept : (old new : Last) (heard : List Report) → HearsAll KeepsFar old heard new → IsSome old.far → IsSome new.far
 best_kept old new [] same some = subst (λ (l : Last). IsSome l.far) (sym same) some
 best_kept old new (how_far far ∷ heard) (mid, keeps, rest) some = best_kept mid new heard rest (subst IsSome (sym keeps) refl)
 best_kept old new (Better moves floor ∷ heard) (mid, keeps, rest) some =
     best_kept mid new heard rest (subst (λ (l : Last). IsSome l.far) (sym keeps) some)
 
-heard_end : (old new : Last) (heard : List Heard) (far : Progress) → HearsAll KeepsFar old (heard ++ how_far far ∷ []) new → IsSome new.far
+heard_end : (old new : Last) (heard : List Report) (far : Progress) → HearsAll KeepsFar old (heard ++ how_far far ∷ []) new → IsSome new.far
 heard_end old new [] far (mid, keeps, rest) = best_kept mid new [] rest (subst IsSome (sym keeps) refl)
 heard_end old new (first ∷ heard) far (mid, keeps, rest) = heard_end mid new heard far rest
 
 -- and so has who keeps what is told last of the searches for a best answer
-best_last_floor : (q : Asked) (b : Board) (old new : Last) (heard : List Heard) → HearsAll KeepsFar old heard new → All (IsSo q b) heard
+best_last_floor : (q : QuestionData) (b : Board) (old new : Last) (heard : List Report) → HearsAll KeepsFar old heard new → All (IsSo q b) heard
     → IfSome (told_floor old.far) (IsFloor q.game b) → IfSome (told_floor new.far) (IsFloor q.game b)
 best_last_floor q b old new [] same so floor = subst (λ (l : Last). IfSome (told_floor l.far) (IsFloor q.game b)) (sym same) floor
 best_last_floor q b old new (how_far far ∷ heard) (mid, keeps, rest) so floor =
@@ -68,14 +68,14 @@ best_last_floor q b old new (Better moves least ∷ heard) (mid, keeps, rest) so
     (subst (λ (l : Last). IfSome (told_floor l.far) (IsFloor q.game b)) (sym keeps) floor)
 
 -- whatever is sought, who keeps what is told last has a floor of the board, if it has any
-pub heard_floor : (sought : Sought) (q : Asked) (b : Board) (old new : Last) → HearsOfThem KeepsFar sought q b old new
+pub heard_floor : (sought : Sought) (q : QuestionData) (b : Board) (old new : Last) → HearsOfThem KeepsFar sought q b old new
     → IfSome (told_floor old.far) (IsFloor q.game b) → IfSome (told_floor new.far) (IsFloor q.game b)
 heard_floor ByMethod q b old new (heard, hears, before) floor =
     last_floor q.game b old new heard hears (at_most_floors (problem_of q b) heard before) floor
 heard_floor Best q b old new (heard, (hears, so, better)) floor = best_last_floor q b old new heard hears so floor
 
 -- and keeps something, once there is a verdict
-pub heard_some : (sought : Sought) (q : Asked) (b : Board) (verdict : Verdict) (old new : Last)
+pub heard_some : (sought : Sought) (q : QuestionData) (b : Board) (verdict : Verdict) (old new : Last)
     → HearsVerdict KeepsFar sought q b verdict old new → IsSome new.far
 heard_some ByMethod q b verdict old new (heard, hears, is) = heard_last old new heard hears is.some
 heard_some Best q b verdict old new (front, far, these, told_of, listed) = heard_end old new front far these.0
@@ -103,19 +103,19 @@ best_floor g budget b (verdict.Won moves least) (wins, floor, less) = floor
 best_floor g budget b verdict.CannotWin right = tt
 best_floor g budget b (verdict.GaveUp told) right = tt
 
-sought_floor : (sought : Sought) (q : Asked) (b : Board) (verdict : Verdict) → IsSought sought q b verdict
+sought_floor : (sought : Sought) (q : QuestionData) (b : Board) (verdict : Verdict) → IsSought sought q b verdict
     → IfSome (answered_floor (outcome_of verdict)) (IsFloor q.game b)
 sought_floor ByMethod q b verdict is =
     right_floor q.game q.method.strategy.weight.parts q.method.strategy.weight.times q.method.strategy.budget b verdict is.right.right
 sought_floor Best q b verdict is = best_floor q.game q.method.strategy.budget b verdict is.right
 
-told_of_answer : (q : Asked) (b : Board) (cert : Option Device) (told : Outcome) (list : Option (List Move))
+told_of_answer : (q : QuestionData) (b : Board) (cert : Option Device) (told : Outcome) (list : Option (List Move))
     → IsAnswerOf q b cert told list → IfSome (answered_floor told) (IsFloor q.game b)
 told_of_answer q b cert told list is =
     subst (λ o. IfSome (answered_floor o) (IsFloor q.game b)) (sym is.answer) (sought_floor q.sought q b is.verdict is.decided)
 
 -- the floor of a row: what its answer tells, and else what was told last
-row_floor : (q : Asked) (b : Board) (cert : Option Device) (told : Option Outcome) (list : Option (List Move)) (far : Option Far)
+row_floor : (q : QuestionData) (b : Board) (cert : Option Device) (told : Option Outcome) (list : Option (List Move)) (far : Option Far)
     → IsToldIn q b cert told list → IfSome (told_floor far) (IsFloor q.game b) → IfSome (floor_of told far) (IsFloor q.game b)
 unfolding answered_floor
 row_floor q b cert None list far right floor = floor
@@ -127,13 +127,13 @@ row_floor q b cert (Some (outcome.Won count least)) list far right floor =
     told_of_answer q b cert (outcome.Won count least) list right
 
 -- a row has the question's budget, and these parts
-pub record HasParts (q : Asked) (answer : Option Outcome) (moves : Option (List Move)) (last : Option Far) (row : Row) : Type 0 where
+pub record HasParts (q : QuestionData) (answer : Option Outcome) (moves : Option (List Move)) (last : Option Far) (row : Row) : Type 0 where
   pub budget : row.budget ≡ q.method.strategy.budget
   pub told : row.told ≡ answer
   pub list : row.list ≡ moves
   pub far : row.far ≡ last
 
-row_of_parts : (q : Asked) (b : Board) (cert : Option Device) (told : Option Outcome) (list : Option (List Move)) (far : Option Far)
+row_of_parts : (q : QuestionData) (b : Board) (cert : Option Device) (told : Option Outcome) (list : Option (List Move)) (far : Option Far)
     (row : Row) → HasParts q told list far row → IsToldIn q b cert told list → (IsSome told → IsSome far)
     → IfSome (told_floor far) (IsFloor q.game b) → IsRowOf q b cert row
 row_of_parts q b cert told list far row parts right searched floor =
@@ -148,7 +148,7 @@ row_of_parts q b cert told list far row parts right searched floor =
     }
 
 -- the row of a verdict that was sought
-pub verdict_row : (q : Asked) (b : Board) (cert : Option Device) (verdict : Verdict) (far : Option Far) (row : Row)
+pub verdict_row : (q : QuestionData) (b : Board) (cert : Option Device) (verdict : Verdict) (far : Option Far) (row : Row)
     → HasParts q (Some (outcome_of verdict)) (list_of verdict) far row → IsVerdictFor q b verdict
     → IfSome cert (IsCertified (problem_of q b) verdict) → IsSome far → IfSome (told_floor far) (IsFloor q.game b) → IsRowOf q b cert row
 verdict_row q b cert verdict far row parts decided certified some floor =
@@ -156,7 +156,7 @@ verdict_row q b cert verdict far row parts decided certified some floor =
     record { verdict = verdict; decided = decided; certified = certified; answer = refl; listed = refl } (λ _. some) floor
 
 -- and that of want of memory
-pub memory_row : (q : Asked) (b : Board) (cert : Option Device) (far : Option Far) (row : Row)
+pub memory_row : (q : QuestionData) (b : Board) (cert : Option Device) (far : Option Far) (row : Row)
     → HasParts q None None far row → IfSome cert IsUntouched → IfSome (told_floor far) (IsFloor q.game b) → IsRowOf q b cert row
 memory_row q b cert far row parts untouched floor =
     row_of_parts q b cert None None far row parts (refl, untouched)

@@ -4,7 +4,7 @@ use Rattle.std.specs.Prelude.{IfOk, IfErr, IfSome}
 use Rattle.fc_position.specs.Board.{Board}
 use Rattle.fc_moves.specs.GameRules.{GameRules}
 use Rattle.fc_best_first.specs.Limits.{IsBudget}
-use Rattle.fc_methods.specs.Method.{Asked, shortest_asked}
+use Rattle.fc_methods.specs.Method.{QuestionData, shortest_asked}
 use Rattle.fc_search.proofs.AnswerLemmas.{one_of_three}
 use Rattle.fc_board_runs.specs.declared.faults.ProgramFault.{ProgramFault}
 use Rattle.fc_board_runs.specs.Devices.{Device, GivesBoard}
@@ -16,16 +16,16 @@ is_lent None = inl refl
 is_lent (Some x) = inr (x, refl)
 
 -- the question that was asked, by the number that its home rule was made of
-pub asked_by : (q : Asked) (g : GameRules) (rule given budget : ℕ) (known : Option ℕ) → q ≡ shortest_asked g rule budget
+pub asked_by : (q : QuestionData) (g : GameRules) (rule given budget : ℕ) (known : Option ℕ) → q ≡ shortest_asked g rule budget
     → known ≡ Some rule → IfSome known (λ r. r ≡ given) → q ≡ shortest_asked g given budget
 asked_by q g rule given budget known asked there value =
     asked ∙ ap (λ (r : ℕ). shortest_asked g r budget) (subst (λ o. IfSome o (λ r. r ≡ given)) there value)
 
-pub solved : (g : GameRules) (rule budget : ℕ) (q : Asked) (n : ℕ) (source : Device) (cert : Option Device) (sink : Device) (start : Board)
+pub solved : (g : GameRules) (rule budget : ℕ) (q : QuestionData) (n : ℕ) (source : Device) (cert : Option Device) (sink : Device) (start : Board)
     (result : Result ℕ ProgramFault) → q ≡ shortest_asked g rule budget → n ≡ g.cells → IsBudget budget → GivesBoard n source start
     → IfOk result (IsAnsweredFor q start cert sink) → IfOk result (IsSolved (shortest_asked g rule budget) source cert sink)
 solved g rule budget q n source cert sink start (Ok status) asked cells budgeted given answered =
-    let own = subst (λ (x : Asked). IsAnsweredFor x start cert sink status) asked answered in
+    let own = subst (λ (x : QuestionData). IsAnsweredFor x start cert sink status) asked answered in
     record {
       budgeted = budgeted;
       start = start;
@@ -35,7 +35,7 @@ solved g rule budget q n source cert sink start (Ok status) asked cells budgeted
     }
 solved g rule budget q n source cert sink start (Err fault) asked cells budgeted given answered = tt
 
-pub unsolved : (g : GameRules) (rule budget : ℕ) (q : Asked) (n : ℕ) (source : Device) (cert : Option Device) (sink : Device) (start : Board)
+pub unsolved : (g : GameRules) (rule budget : ℕ) (q : QuestionData) (n : ℕ) (source : Device) (cert : Option Device) (sink : Device) (start : Board)
     (result : Result ℕ ProgramFault) → q ≡ shortest_asked g rule budget → n ≡ g.cells → IsBudget budget → GivesBoard n source start
     → IfErr result (IsUnansweredFor q start cert sink) → IfErr result (IsSolveFault (shortest_asked g rule budget) source cert sink)
 unsolved g rule budget q n source cert sink start (Ok status) asked cells budgeted given unanswered = tt
@@ -45,6 +45,6 @@ unsolved g rule budget q n source cert sink start (Err fault) asked cells budget
       (
         start,
         subst (λ m. GivesBoard m source start) cells given,
-        subst (λ (x : Asked). IsUnansweredFor x start cert sink fault) asked unanswered,
+        subst (λ (x : QuestionData). IsUnansweredFor x start cert sink fault) asked unanswered,
       ),
     )

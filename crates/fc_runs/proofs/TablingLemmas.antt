@@ -5,7 +5,7 @@ use Rattle.std.proofs.lemmas.List.{append-nil, flat_map_more, length-append, map
 use Rattle.fc_io.specs.Moves.{TakesBytes, TakesFront}
 use Rattle.fc_io.proofs.MoveLemmas.{TakesBytes-both, takes_then_front}
 use Rattle.fc_deal.specs.Deal.{dealt_board}
-use Rattle.fc_methods.specs.Method.{Asked}
+use Rattle.fc_methods.specs.Method.{QuestionData}
 use Rattle.fc_board_runs.specs.Devices.{Device}
 use Rattle.fc_runs.specs.declared.answer_rows.Row.{Row}
 use Rattle.fc_runs.specs.Batches.{greatest_status}
@@ -28,7 +28,7 @@ deal_row : ℕ → Row → DealRow
 deal_row deal row = record { deal = deal; row = row }
 
 -- one more row that is right
-one_more_row : (q : Asked) (from count : ℕ) (rows : List DealRow) (row : Row) → AreRows q from rows
+one_more_row : (q : QuestionData) (from count : ℕ) (rows : List DealRow) (row : Row) → AreRows q from rows
     → length rows ≡ count → IsRowOf q (dealt_board (from + count)) None row
     → AreRows q from (rows ++ deal_row (from + count) row ∷ [])
 unfolding deal_row
@@ -38,7 +38,7 @@ one_more_row q from count rows row right whole told = record {
 }
 
 -- the names and so many rows were written, and this is the greatest of their statuses
-pub record RowsAreWritten (q : Asked) (from count : ℕ) (old new : Option (List ℕ)) (status : ℕ) : Type 0 where
+pub record RowsAreWritten (q : QuestionData) (from count : ℕ) (old new : Option (List ℕ)) (status : ℕ) : Type 0 where
   pub rows : List DealRow
   pub right : AreRows q from rows
   pub whole : length rows ≡ count
@@ -46,7 +46,7 @@ pub record RowsAreWritten (q : Asked) (from count : ℕ) (old new : Option (List
   pub greatest : status ≡ greatest_status (map line_of rows)
 
 -- the names alone, and no row
-pub none_written : (q : Asked) (from : ℕ) (old new : Option (List ℕ)) (bytes : List ℕ) → bytes ≡ names_text
+pub none_written : (q : QuestionData) (from : ℕ) (old new : Option (List ℕ)) (bytes : List ℕ) → bytes ≡ names_text
     → TakesBytes old new bytes → RowsAreWritten q from 0 old new 0
 none_written q from old new bytes same taken = record {
   rows = [];
@@ -60,7 +60,7 @@ none_written q from old new bytes same taken = record {
 text_more : (rows : List DealRow) (row : DealRow) → table_text rows ++ row_text row ≡ table_text (rows ++ row ∷ [])
 text_more rows row = flat_map_more row_text names_text rows row
 
-pub one_more_written : (q : Asked) (from count : ℕ) (old mid new : Option (List ℕ)) (status next : ℕ) (row : Row)
+pub one_more_written : (q : QuestionData) (from count : ℕ) (old mid new : Option (List ℕ)) (status next : ℕ) (row : Row)
     → RowsAreWritten q from count old mid status → IsRowOf q (dealt_board (from + count)) None row
     → TakesBytes mid new (row_text (record { deal = from + count; row = row })) → next ≡ max status (told_status row.told)
     → RowsAreWritten q from (count + 1) old new next
@@ -79,7 +79,7 @@ one_more_written q from count old mid new status next row so_far told taken grea
     }
 
 -- and one that was cut short
-pub row_cut_short : (q : Asked) (from count most : ℕ) (mid : Option (List ℕ)) (sink : Device) (status : ℕ) (row : Row)
+pub row_cut_short : (q : QuestionData) (from count most : ℕ) (mid : Option (List ℕ)) (sink : Device) (status : ℕ) (row : Row)
     → RowsAreWritten q from count sink.old mid status → IsRowOf q (dealt_board (from + count)) None row
     → TakesFront mid sink.new (row_text (record { deal = from + count; row = row })) → count < most → IsTrue sink.failed
     → IsTableCutShort q from most sink

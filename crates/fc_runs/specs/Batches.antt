@@ -7,7 +7,7 @@ use Rattle.fc_answers.specs.declared.answers.Outcome.{Outcome}
 use Rattle.fc_answers.specs.declared.answers.Verdict.{Verdict}
 use Rattle.fc_answers.specs.Verdict.{outcome_of}
 use Rattle.fc_best_first.specs.Limits.{IsBudget}
-use Rattle.fc_methods.specs.Method.{Asked}
+use Rattle.fc_methods.specs.Method.{QuestionData}
 use Rattle.fc_search.specs.Problem.{problem_of}
 use Rattle.fc_best_first.specs.Store.{Store}
 use Rattle.fc_best_first.specs.declared.turns.Status.{Status}
@@ -31,18 +31,18 @@ greatest_status (line ∷ lines) = max (told_status line.told) (greatest_status 
 
 -- an answer without moves is told of a deal: that of a verdict that is right for its board, of a search by the home rule,
 -- the weight and the kind of bound that ran to its end with the budget
-pub record IsToldOf (q : Asked) (deal : ℕ) (told : Outcome) : Type 0 where
+pub record IsToldOf (q : QuestionData) (deal : ℕ) (told : Outcome) : Type 0 where
   pub verdict : Verdict
   pub decided : IsDecided (problem_of q (dealt_board deal)) verdict
   pub answer : told ≡ outcome_of verdict
 
 -- memory was wanted for a deal: its search was stopped, or ended and has no list of its moves
-abbrev pub IsWanting : Asked → ℕ → Type 0
+abbrev pub IsWanting : QuestionData → ℕ → Type 0
 IsWanting q deal = (last : Store (List ℕ)) × (status : Status (List ℕ))
     × HasRun (problem_of q (dealt_board deal)) last status × (status ≡ Running → ⊥)
 
 -- what is told of a deal is right: its answer, or that memory was wanted
-abbrev pub IsRightOf : Asked → ℕ → Option Outcome → Type 0
+abbrev pub IsRightOf : QuestionData → ℕ → Option Outcome → Type 0
 IsRightOf q deal (Some told) = IsToldOf q deal told
 IsRightOf q deal None = IsWanting q deal
 
@@ -77,28 +77,28 @@ pub record IsAsked (from to count : ℕ) : Type 0 where
   pub whole : from + count ≡ to + 1
 
 -- an answer without moves is told of a deal: that of a best verdict for its board
-pub record IsBestTold (q : Asked) (deal : ℕ) (told : Outcome) : Type 0 where
+pub record IsBestTold (q : QuestionData) (deal : ℕ) (told : Outcome) : Type 0 where
   pub verdict : Verdict
   pub best : IsBestVerdict q (dealt_board deal) verdict
   pub answer : told ≡ outcome_of verdict
 
 -- what a line tells of a deal is right: its best answer; of a deal for which memory was wanted nothing is promised
-abbrev pub IsBestLine : Asked → ℕ → Option Outcome → Type 0
+abbrev pub IsBestLine : QuestionData → ℕ → Option Outcome → Type 0
 IsBestLine q deal told = IfSome told (IsBestTold q deal)
 
 -- what a line tells of a deal is right, by what is sought
-abbrev pub IsLineOf : Sought → Asked → ℕ → Option Outcome → Type 0
+abbrev pub IsLineOf : Sought → QuestionData → ℕ → Option Outcome → Type 0
 IsLineOf ByMethod = IsRightOf
 IsLineOf Best = IsBestLine
 
 -- a batch was told, of which this is sought: it can be asked for, and each of the deals was told
-pub record IsBatchedBy (sought : Sought) (q : Asked) (from to : ℕ) (sink : Device) (status : ℕ) : Type 0 where
+pub record IsBatchedBy (sought : Sought) (q : QuestionData) (from to : ℕ) (sink : Device) (status : ℕ) : Type 0 where
   pub count : ℕ
   pub asked : IsAsked from to count
   pub told : AreTold (IsLineOf sought q) from count sink status
 
 -- a batch of searches by the method was told, and its budget is one of a single search
-pub record IsBatched (q : Asked) (from to : ℕ) (sink : Device) (status : ℕ) : Type 0 where
+pub record IsBatched (q : QuestionData) (from to : ℕ) (sink : Device) (status : ℕ) : Type 0 where
   pub budgeted : IsBudget q.method.strategy.budget
   pub batched : IsBatchedBy ByMethod q from to sink status
 
@@ -120,14 +120,14 @@ IsUnasked from to other = ⊥
 
 -- why no batch was told, or not all of it: the deals can't be asked for, or they can and a growth was refused before the first
 -- turn of a search by the method, and nothing is written; or the sink failed
-abbrev pub IsBatchFaultBy : Sought → Asked → ℕ → ℕ → Device → ProgramFault → Type 0
+abbrev pub IsBatchFaultBy : Sought → QuestionData → ℕ → ℕ → Device → ProgramFault → Type 0
 IsBatchFaultBy ByMethod q from to sink Memory = AreDeals from to × IsUntouched sink
 IsBatchFaultBy sought q from to sink (Write of_answer) = (count : ℕ) × IsAsked from to count × AreCutShort (IsLineOf sought q) from count sink
 IsBatchFaultBy sought q from to sink fault = IsUnasked from to fault × IsUntouched sink
 
 -- the same of searches by the method, where the deals can be asked for and the budget is none, and what comes after the deals only
 -- where it is one
-abbrev pub IsBatchFault : Asked → ℕ → ℕ → Device → ProgramFault → Type 0
+abbrev pub IsBatchFault : QuestionData → ℕ → ℕ → Device → ProgramFault → Type 0
 IsBatchFault q from to sink Budget = AreDeals from to × (IsBudget q.method.strategy.budget → ⊥) × IsUntouched sink
 IsBatchFault q from to sink Memory = IsBudget q.method.strategy.budget × IsBatchFaultBy ByMethod q from to sink Memory
 IsBatchFault q from to sink (Write of_answer) = IsBudget q.method.strategy.budget × IsBatchFaultBy ByMethod q from to sink (Write of_answer)

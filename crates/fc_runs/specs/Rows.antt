@@ -2,7 +2,7 @@
 use Rattle.std.specs.Prelude.{◌≡◌, ℕ, ◌++◌, List, [], Option, Some, None, IfSome, IsSome, codes, decimal}
 use Rattle.fc_position.specs.Board.{Board}
 use Rattle.fc_moves.specs.declared.steps.Move.{Move}
-use Rattle.fc_methods.specs.Method.{Asked}
+use Rattle.fc_methods.specs.Method.{QuestionData}
 use Rattle.fc_answers.specs.declared.answers.Outcome.{Outcome}
 use Rattle.fc_answers.specs.declared.answers.Outcome.TheVariants.{Shortest, Won, CannotWin, GaveUp}
 use Rattle.fc_answers.specs.declared.answers.Verdict.{Verdict}
@@ -67,7 +67,7 @@ cells_text row = codes "\t" ++ answer_name row.told ++ codes "\t" ++ number_text
 
 -- an answer and a list are told of a board: those of a verdict that was sought, of which the sink of certificates, where there is
 -- one, took the certificate
-pub record IsAnswerOf (q : Asked) (b : Board) (cert : Option Device) (told : Outcome) (list : Option (List Move)) : Type 0 where
+pub record IsAnswerOf (q : QuestionData) (b : Board) (cert : Option Device) (told : Outcome) (list : Option (List Move)) : Type 0 where
   pub verdict : Verdict
   pub decided : IsVerdictFor q b verdict
   pub certified : IfSome cert (IsCertified (problem_of q b) verdict)
@@ -76,20 +76,20 @@ pub record IsAnswerOf (q : Asked) (b : Board) (cert : Option Device) (told : Out
 
 -- what is told of a board: its answer and the list of it; or that memory was wanted, and then there is no list, and no certificate
 -- is written
-abbrev pub IsToldIn : Asked → Board → Option Device → Option Outcome → Option (List Move) → Type 0
+abbrev pub IsToldIn : QuestionData → Board → Option Device → Option Outcome → Option (List Move) → Type 0
 IsToldIn q b cert None list = (list ≡ None) × IfSome cert IsUntouched
 IsToldIn q b cert (Some told) list = IsAnswerOf q b cert told list
 
 -- a row is right for a board: its budget is the question's, and what it tells is right; where memory wasn't wanted, there is what
 -- the search told last; and no list of fewer moves than its floor wins. Nothing is promised of the other numbers that a search told
-pub record IsRowOf (q : Asked) (b : Board) (cert : Option Device) (row : Row) : Type 0 where
+pub record IsRowOf (q : QuestionData) (b : Board) (cert : Option Device) (row : Row) : Type 0 where
   pub budget : row.budget ≡ q.method.strategy.budget
   pub told : IsToldIn q b cert row.told row.list
   pub searched : IsSome row.told → IsSome row.far
   pub floor : IfSome (floor_of row.told row.far) (IsFloor q.game b)
 
 -- why a board has no row: the certificate of what was sought couldn't be written, of which a front may be
-abbrev pub IsNoRow : Asked → Board → Option Device → ProgramFault → Type 0
+abbrev pub IsNoRow : QuestionData → Board → Option Device → ProgramFault → Type 0
 IsNoRow q b cert (Write of_certificate) = (verdict : Verdict) × IsVerdictFor q b verdict
     × ((lent : Device) × (cert ≡ Some lent) × IsCutShort (problem_of q b) verdict lent)
 IsNoRow q b cert other = ⊥

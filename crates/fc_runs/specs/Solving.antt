@@ -7,10 +7,10 @@ use Rattle.fc_answers.specs.declared.answers.Verdict.{Verdict}
 use Rattle.fc_answers.specs.declared.answers.Verdict.TheVariants.{Shortest, Won, CannotWin, GaveUp}
 use Rattle.fc_best_first.specs.Limits.{IsBudget}
 use Rattle.fc_best_first.specs.declared.limits.TheConstants.{MOST_BUDGET}
-use Rattle.fc_methods.specs.Method.{Asked}
+use Rattle.fc_methods.specs.Method.{QuestionData}
 use Rattle.fc_search.specs.Problem.{Problem, problem_of}
 use Rattle.fc_search.specs.Search.{IsOneOfThree}
-use Rattle.fc_search.specs.Watch.{Heard}
+use Rattle.fc_search.specs.Watch.{Report}
 use Rattle.fc_best.specs.Answering.{HearsVerdict, IsDecided, IsVerdictFor}
 use Rattle.fc_cert.specs.declared.certificates.TheConstants.{LONGEST_CERTIFICATE}
 use Rattle.fc_cert.specs.declared.claims.Claim.{Claim}
@@ -95,7 +95,7 @@ abbrev pub IsAnswered : Problem → Option Device → Device → ℕ → Type 0
 IsAnswered p cert sink status = IsAnsweredBy (IsDecided p) p cert sink status
 
 -- a board was answered by a verdict that the question seeks
-abbrev pub IsAnsweredFor : Asked → Board → Option Device → Device → ℕ → Type 0
+abbrev pub IsAnsweredFor : QuestionData → Board → Option Device → Device → ℕ → Type 0
 IsAnsweredFor q b cert sink status = IsAnsweredBy (IsVerdictFor q b) (problem_of q b) cert sink status
 
 -- nothing was written, of a certificate or of an answer
@@ -118,18 +118,18 @@ abbrev pub IsUnanswered : Problem → Option Device → Device → ProgramFault 
 IsUnanswered p cert sink fault = IsUnansweredBy (IsDecided p) p cert sink fault
 
 -- why a board wasn't answered by such a verdict
-abbrev pub IsUnansweredFor : Asked → Board → Option Device → Device → ProgramFault → Type 0
+abbrev pub IsUnansweredFor : QuestionData → Board → Option Device → Device → ProgramFault → Type 0
 IsUnansweredFor q b cert sink fault = IsUnansweredBy (IsVerdictFor q b) (problem_of q b) cert sink fault
 
-module _ {L : Type 0} (hears : L → Heard → L → Type 0) where
+module _ {L : Type 0} (hears : L → Report → L → Type 0) where
   -- a board was answered, and a listener heard of the very searches whose verdict was written, to their end
-  abbrev pub HearsAnswered : Asked → Board → Device → L → L → Type 0
+  abbrev pub HearsAnswered : QuestionData → Board → Device → L → L → Type 0
   HearsAnswered q b sink old new = (verdict : Verdict) × HearsVerdict hears q.sought q b verdict old new
       × TakesBytes sink.old sink.new (answer_text verdict)
 
 -- solving was answered: the budget is one, and the source gave the text of a position, which was answered, by one of three
 -- verdicts
-pub record IsSolved (q : Asked) (source : Device) (cert : Option Device) (sink : Device) (status : ℕ) : Type 0 where
+pub record IsSolved (q : QuestionData) (source : Device) (cert : Option Device) (sink : Device) (status : ℕ) : Type 0 where
   pub budgeted : IsBudget q.method.strategy.budget
   pub start : Board
   pub given : GivesBoard q.game.cells source start
@@ -138,18 +138,18 @@ pub record IsSolved (q : Asked) (source : Device) (cert : Option Device) (sink :
 
 -- why no position was given to be solved, each fault only where those before it have no cause: the budget is none, and nothing
 -- is read; or the source has failed, or its text has a fault
-abbrev pub IsStartFault : Asked → Device → ProgramFault → Type 0
+abbrev pub IsStartFault : QuestionData → Device → ProgramFault → Type 0
 IsStartFault q source Budget = (IsBudget q.method.strategy.budget → ⊥) × Stays source.old source.new
 IsStartFault q source (Read of_board) = IsBudget q.method.strategy.budget × IsTrue source.failed
 IsStartFault q source (bad_board fault) = IsBudget q.method.strategy.budget × GivesFault q.game.cells source fault
 IsStartFault q source other = ⊥
 
 -- a position was given, and wasn't answered
-abbrev pub IsGivenUnanswered : Asked → Device → Option Device → Device → ProgramFault → Type 0
+abbrev pub IsGivenUnanswered : QuestionData → Device → Option Device → Device → ProgramFault → Type 0
 IsGivenUnanswered q source cert sink fault = IsBudget q.method.strategy.budget
     × ((start : Board) × GivesBoard q.game.cells source start × IsUnanswered (problem_of q start) cert sink fault)
 
 -- why solving was not answered: no position was given, and nothing was written; or one was, and wasn't answered
-abbrev pub IsSolveFault : Asked → Device → Option Device → Device → ProgramFault → Type 0
+abbrev pub IsSolveFault : QuestionData → Device → Option Device → Device → ProgramFault → Type 0
 IsSolveFault q source cert sink fault =
     (IsStartFault q source fault × NothingIsWritten cert sink) ⊎ IsGivenUnanswered q source cert sink fault

@@ -3,7 +3,7 @@ use Rattle.std.specs.Prelude.{◌≡◌, ◌⊎◌, ℕ, ◌+◌, ◌≤◌, Lis
 use Rattle.std.specs.List.{flat_map}
 use Rattle.fc_io.specs.Moves.{TakesBytes, TakesFront}
 use Rattle.fc_deal.specs.Deal.{IsDealNumber, dealt_board}
-use Rattle.fc_methods.specs.Method.{Asked}
+use Rattle.fc_methods.specs.Method.{QuestionData}
 use Rattle.fc_board_runs.specs.declared.faults.Output.TheVariants.{Answer as of_answer}
 use Rattle.fc_board_runs.specs.declared.faults.ProgramFault.{ProgramFault}
 use Rattle.fc_board_runs.specs.declared.faults.ProgramFault.TheVariants.{Number, Range, Write}
@@ -35,7 +35,7 @@ abbrev pub line_of : DealRow → Line
 line_of row = record { deal = row.deal; told = row.row.told }
 
 -- rows that are right, one a deal, rising from this one
-pub record AreRows (q : Asked) (from : ℕ) (rows : List DealRow) : Type 0 where
+pub record AreRows (q : QuestionData) (from : ℕ) (rows : List DealRow) : Type 0 where
   pub rising : (i : ℕ) (row : DealRow) → slice_get rows i ≡ Some row → row.deal ≡ from + i
   pub right : (i : ℕ) (row : DealRow) → slice_get rows i ≡ Some row → IsRowOf q (dealt_board row.deal) None row.row
 
@@ -55,7 +55,7 @@ IsTableUnasked from to Range = IsDealNumber from × IsDealNumber to × (from ≤
 IsTableUnasked from to other = ⊥
 
 -- so many deals were told: the sink took the names and a row for each, and the status is the greatest of theirs
-pub record AreTabled (q : Asked) (from count : ℕ) (sink : Device) (status : ℕ) : Type 0 where
+pub record AreTabled (q : QuestionData) (from count : ℕ) (sink : Device) (status : ℕ) : Type 0 where
   pub rows : List DealRow
   pub right : AreRows q from rows
   pub whole : length rows ≡ count
@@ -64,13 +64,13 @@ pub record AreTabled (q : Asked) (from count : ℕ) (sink : Device) (status : �
   pub greatest : status ≡ greatest_status (map line_of rows)
 
 -- a table was told: it can be asked for, and each of its deals was told
-pub record IsTabled (q : Asked) (from to : ℕ) (sink : Device) (status : ℕ) : Type 0 where
+pub record IsTabled (q : QuestionData) (from to : ℕ) (sink : Device) (status : ℕ) : Type 0 where
   pub count : ℕ
   pub asked : IsTableAsked from to count
   pub told : AreTabled q from count sink status
 
 -- the sink failed while it was given the names and the rows of at most so many deals
-pub record IsTableCutShort (q : Asked) (from count : ℕ) (sink : Device) : Type 0 where
+pub record IsTableCutShort (q : QuestionData) (from count : ℕ) (sink : Device) : Type 0 where
   pub rows : List DealRow
   pub right : AreRows q from rows
   pub some : length rows ≤ count
@@ -78,7 +78,7 @@ pub record IsTableCutShort (q : Asked) (from count : ℕ) (sink : Device) : Type
   pub failed : IsTrue sink.failed
 
 -- why no table was told, or not all of one: it can't be asked for, and nothing is written; or the sink failed
-abbrev pub IsTableFault : Asked → ℕ → ℕ → Device → ProgramFault → Type 0
+abbrev pub IsTableFault : QuestionData → ℕ → ℕ → Device → ProgramFault → Type 0
 IsTableFault q from to sink (Write of_answer) =
     (count : ℕ) × IsTableAsked from to count × IsTableCutShort q from count sink
 IsTableFault q from to sink fault = IsTableUnasked from to fault × IsUntouched sink

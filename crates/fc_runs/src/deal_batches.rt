@@ -2,7 +2,7 @@
 
 ghost use Rattle.std.specs.Prelude.{◌≡◌, ◌+◌, ◌<◌, ◌≤◌, ℕ, Some, IfOk, IfErr, OnErr, true, false};
 ghost use Rattle.fc_deal.specs.Deal.{IsDealNumber};
-ghost use Rattle.fc_methods.specs.Method.{Asked};
+ghost use Rattle.fc_methods.specs.Method.{QuestionData};
 ghost use Rattle.fc_search.specs.Search.{State};
 ghost use Rattle.fc_batch.specs.Batch.{OthersStay, search_at, work_left};
 ghost use Rattle.fc_board_runs.specs.Devices.{change};
@@ -130,7 +130,7 @@ fn search_of<G: Game + Drop>(
 
 // Turns of the searches with the first numbers, in rising order again and again, until none of them runs.
 fn run_to_end<G: Game + Drop>(batch: &mut Batch<EitherFrontier, G>, count: usize)
-    ensures held { (q : Asked) (from : ℕ) → HoldsDeals q from count batch.old
+    ensures held { (q : QuestionData) (from : ℕ) → HoldsDeals q from count batch.old
         → HoldsDeals q from count batch.new }
     ensures ended { HaveEnded count batch.new }
 {
@@ -139,7 +139,7 @@ fn run_to_end<G: Game + Drop>(batch: &mut Batch<EitherFrontier, G>, count: usize
 
 // One turn of each of them; whether one may still run.
 fn run_each<G: Game + Drop>(batch: &mut Batch<EitherFrontier, G>, count: usize) -> bool
-    ensures held { (q : Asked) (from : ℕ) → HoldsDeals q from count batch.old
+    ensures held { (q : QuestionData) (from : ℕ) → HoldsDeals q from count batch.old
         → HoldsDeals q from count batch.new }
     ensures ended { result ≡ false → HaveEnded count batch.new }
     ensures most { work_left batch.new ≤ work_left batch.old }
@@ -156,7 +156,7 @@ fn run_each<G: Game + Drop>(batch: &mut Batch<EitherFrontier, G>, count: usize) 
 
 // One turn of one search; whether it may still run.
 fn take_turn<G: Game + Drop>(batch: &mut Batch<EitherFrontier, G>, number: usize) -> bool
-    ensures held { (q : Asked) (from count : ℕ) → HoldsDeals q from count batch.old
+    ensures held { (q : QuestionData) (from count : ℕ) → HoldsDeals q from count batch.old
         → HoldsDeals q from count batch.new }
     ensures others { OthersStay number batch.old batch.new }
     ensures ended { result ≡ false → (s : State) → search_at batch.new number ≡ Some s → s.status ≡ Status.Running → ⊥ }
@@ -178,10 +178,10 @@ fn write_lines<G: Game + Drop, K: Sink>(
 ) -> Result<u8, Failed>
     requires some { 1 ≤ count }
     requires numbers { from + count ≤ 1000001 }
-    ensures told { (q : Asked) → HoldsDeals q from count batch.now → HaveEnded count batch.now
+    ensures told { (q : QuestionData) → HoldsDeals q from count batch.now → HaveEnded count batch.now
         → IfOk result (AreTold (IsRightOf q) from count
         (change K.held K.has_failed out.old out.new)) }
-    ensures cut { (q : Asked) → HoldsDeals q from count batch.now → HaveEnded count batch.now
+    ensures cut { (q : QuestionData) → HoldsDeals q from count batch.now → HaveEnded count batch.now
         → OnErr result (AreCutShort (IsRightOf q) from count
         (change K.held K.has_failed out.old out.new)) }
 {
@@ -198,7 +198,7 @@ fn write_lines<G: Game + Drop, K: Sink>(
 
 // What is told of the search with this number, which has ended.
 fn told_of<G: Game + Drop>(batch: &Batch<EitherFrontier, G>, number: usize) -> Option<Outcome>
-    ensures told { (q : Asked) (deal : ℕ) (search : State) → search_at batch.now number ≡ Some search
+    ensures told { (q : QuestionData) (deal : ℕ) (search : State) → search_at batch.now number ≡ Some search
         → IsSearchOf q deal search → (search.status ≡ Status.Running → ⊥) → IsRightOf q deal result }
 {
     match batch.get(number)?.verdict() {

@@ -9,10 +9,11 @@ pub use deal_batches::{MOST_DEALS, run_answers};
 pub use delivering::run_answer;
 pub use fc_board_runs::{
     Input, LONGEST_BOARD, LONGEST_MOVES, ListQuestion, ListWants, Look, Output, ProgramFault,
-    read_position, run_deal, run_list, run_replay, run_replay_as, run_replay_sequences, run_show,
+    list_board, list_moves, read_position, run_deal, run_list, run_replay, run_replay_as,
+    run_replay_sequences, run_show,
 };
-pub use printable_lists::{PrintableList, list_text};
-pub use tabling::{run_table, table_deals, table_head};
+pub use printable_lists::PrintableList;
+pub use tabling::{RowListener, run_table, table_deals, table_head};
 pub use written_out::{run_batch, run_check, run_solve};
 
 mod answer_rows;

@@ -1,14 +1,12 @@
 //! Lists of moves that can be printed.
 
-ghost use Rattle.std.specs.Prelude.{◌≡◌, ◌<◌, ◌≤◌, All, IfOk, length};
+ghost use Rattle.std.specs.Prelude.{◌≡◌, All, IfOk};
 ghost use Rattle.fc_moves.specs.MoveText.{HasText};
 ghost use Rattle.fc_answers.specs.Verdict.{CanBeWritten};
-ghost use Rattle.fc_answers.specs.declared.answers.TheConstants.{MOST_MOVES};
-ghost use Rattle.fc_answers.specs.declared.answers.Verdict.TheVariants.{Shortest, Won};
-ghost use Rattle.fc_answer_text.specs.AnswerText.{answer_text, moves_line};
+ghost use Rattle.fc_answer_text.specs.AnswerText.{moves_line};
 ghost use Rattle.fc_runs.specs.Lists.{list_of};
 
-use fc_answer_text::{moves_text, verdict_text};
+use fc_answer_text::moves_text;
 use fc_answers::{MoveList, Verdict};
 use fc_moves::Move;
 use std::alloc::{AllocError, Global};
@@ -62,23 +60,4 @@ pub(crate) fn list_of(verdict: Verdict) -> Option<PrintableList>
         Verdict::Won { moves, .. } => Some(PrintableList { moves }),
         Verdict::CannotWin | Verdict::GaveUp(_) => None,
     }
-}
-
-/// The text of an answer by a list that wins, as a listener hears it, and by a number of moves that none that wins is below.
-///
-/// # Errors
-/// A growth was refused.
-pub fn list_text(alloc: Global, moves: &MoveList, floor: u32) -> Result<Vec<u8>, AllocError>
-    requires texts { All HasText moves.now }
-    requires few { length moves.now ≤ MOST_MOVES }
-    ensures shortest { length moves.now ≤ floor → IfOk result (λ t. t.items ≡ answer_text (Shortest moves.now)) }
-    ensures won { floor < length moves.now → IfOk result (λ t. t.items ≡ answer_text (Won moves.now floor)) }
-{
-    let list = MoveList::new(Vec::from_slice(alloc, moves.as_slice())?);
-    let verdict = if list.len() <= floor as usize {
-        Verdict::Shortest(list)
-    } else {
-        Verdict::Won { moves: list, floor }
-    };
-    verdict_text(alloc, &verdict)
 }

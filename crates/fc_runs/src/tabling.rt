@@ -16,6 +16,12 @@ use fc_moves::Game;
 use itoa::Buffer;
 use std::alloc::Global;
 
+/// Who hears of the rows of a table, of each as soon as it is written.
+pub trait RowListener {
+    /// Hears of a row.
+    fn hear_row(&mut self, row: &Row);
+}
+
 /// The first line of a table of deals: the names of the columns.
 pub fn table_head() -> &'static str
     ensures value { result.now ≡ names_text }
@@ -27,17 +33,19 @@ pub fn table_head() -> &'static str
 /// and writes a table parted by tabs: a line of the columns' names, and a row for each deal, rising, as soon as its search has
 /// ended. A row has the number of the deal, and the cells that `Row::cells` tells. Where memory is wanted for one deal, the next
 /// one goes on. The status is the greatest of the rows': 0 for a solution, 1 where a deal can't be won, 2 on giving up, 4 for want
-/// of memory. No list of moves wins a row's deal in fewer than its floor. Nothing of one deal is kept for the next.
+/// of memory. No list of moves wins a row's deal in fewer than its floor. Nothing of one deal is kept for the next. The listener hears
+/// of each row that is written.
 ///
 /// # Errors
 /// In this order: a number outside 1 to 1,000,000, `from` before `to`; no deal, and nothing is written; or a table that can't be
 /// written, of which a front may be.
-pub fn run_table<G: Game + Drop, K: Sink>(
+pub fn run_table<G: Game + Drop, K: Sink, L: RowListener>(
     alloc: Global,
     question: &Question<G>,
     from: u32,
     to: u32,
     out: &mut K,
+    listener: &mut L,
 ) -> Result<u8, ProgramFault>
     ensures tabled { IfOk result (IsTabled question.now from to
         (change K.held K.has_failed out.old out.new)) }
@@ -45,7 +53,7 @@ pub fn run_table<G: Game + Drop, K: Sink>(
         (change K.held K.has_failed out.old out.new)) }
 {
     let count = table_deals(from, to)?;
-    match write_table(alloc, question, from, count, out) {
+    match write_table(alloc, question, from, count, out, listener) {
         Ok(status) => Ok(status),
         Err(_) => Err(ProgramFault::Write(Output::Answer)),
     }
@@ -72,12 +80,13 @@ pub fn table_deals(from: u32, to: u32) -> Result<u32, ProgramFault>
 }
 
 // Writes the names of the columns, and a row for each of so many deals; the greatest status of the rows.
-fn write_table<G: Game + Drop, K: Sink>(
+fn write_table<G: Game + Drop, K: Sink, L: RowListener>(
     alloc: Global,
     question: &Question<G>,
     from: u32,
     count: u32,
     out: &mut K,
+    listener: &mut L,
 ) -> Result<u8, Failed>
     requires first { 1 ≤ from }
     requires last { from + count ≤ 1000001 }
@@ -93,6 +102,7 @@ fn write_table<G: Game + Drop, K: Sink>(
         let Ok(()) = write_all(out, row_text(from + i, &row).as_bytes()) else {
             return Err(Failed);
         };
+        listener.hear_row(&row);
         greatest = greatest.max(row.status());
     }
     Ok(greatest)

@@ -1,6 +1,6 @@
 //! The best answer of a position, on boards whose answers are known.
 
-ghost use Rattle.fc_methods.specs.Method.{Asked};
+ghost use Rattle.fc_methods.specs.Method.{QuestionData};
 ghost use Rattle.fc_position.specs.Position.{Fits};
 
 use crate::given::{

@@ -1,7 +1,7 @@
 //! What is asked by a home rule and a budget is answered as the question of a shortest list by the plain bound is.
 
 ghost use Rattle.fc_answers.specs.Verdict.{CanBeWritten};
-ghost use Rattle.fc_methods.specs.Method.{Asked};
+ghost use Rattle.fc_methods.specs.Method.{QuestionData};
 ghost use Rattle.fc_moves.specs.GameRules.{IsPositionOf};
 ghost use Rattle.fc_position.specs.Position.{Fits};
 

@@ -5,7 +5,7 @@ use Rattle.fc_moves.specs.declared.steps.Move.{Move}
 use Rattle.fc_moves.specs.GameRules.{GameRules}
 use Rattle.fc_answers.specs.declared.answers.Verdict.{Verdict}
 use Rattle.fc_answers.specs.declared.answers.Verdict.TheVariants.{Shortest, Won, CannotWin, GaveUp}
-use Rattle.fc_methods.specs.Method.{Asked}
+use Rattle.fc_methods.specs.Method.{QuestionData}
 use Rattle.fc_review.specs.Review.{IsKnownAlong, IsLostAfter, IsOpenAfter, TellsList}
 use Rattle.fc_review.specs.declared.edges.Edge.{Edge}
 use Rattle.fc_review.specs.declared.edges.Wanted.{Wanted}
@@ -24,7 +24,7 @@ IsAsWanted OfLists verdict = TellsList verdict
 IsAsWanted NotLost verdict = IsNoLoss verdict
 
 -- the board behind isn't as it is wanted; the one before it is, unless it is the first board of all
-pub record IsEdge (q : Asked) (b : Board) (moves : List Move) (wanted : Wanted) (edge : Edge) : Type 0 where
+pub record IsEdge (q : QuestionData) (b : Board) (moves : List Move) (wanted : Wanted) (edge : Edge) : Type 0 where
   pub behind : IsKnownAlong q b moves edge.behind
   pub turned : IsAsWanted wanted edge.behind.verdict → ⊥
   pub before : MatchOption edge.before (edge.behind.after ≡ 0)
@@ -35,5 +35,5 @@ abbrev pub IsLostBehind : GameRules → Board → List Move → ℕ → Option �
 IsLostBehind g b moves after lost = MatchOption lost (after ≡ length moves) (λ n. (n ≡ after + 1) × IsLostAfter g b moves n)
 
 -- the board before a lost one gave up, or the last one where none is told
-abbrev pub IsOpenUpTo : Asked → Board → List Move → Option ℕ → Type 0
+abbrev pub IsOpenUpTo : QuestionData → Board → List Move → Option ℕ → Type 0
 IsOpenUpTo q b moves lost = (after : ℕ) × IsLostBehind q.game b moves after lost × IsOpenAfter q b moves after

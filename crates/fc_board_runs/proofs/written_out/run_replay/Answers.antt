@@ -1,7 +1,7 @@
 use Rattle.std.proofs.Common.{rules}
 use Rattle.fc_board_runs.specs.Devices.{Device, GivesBoard, change}
 use Rattle.fc_board_runs.proofs.ReplayLemmas.{replayed_printed, fault_printed}
-use Rattle.fc_board_runs.proofs.runs.run_replay.Goals as goal
+use Rattle.fc_board_runs.proofs.written_out.run_replay.Goals as goal
 
 pub returns-in-Ok-clause-replayed : goal.returns-in-Ok-clause-replayed
 returns-in-Ok-clause-replayed g c =
