@@ -1,63 +1,23 @@
 //! The program: FreeCell boards dealt, solved with answers that are proved, and moves replayed.
 #![tactic(auto)]
 
-mod advice;
-mod answer_forms;
-mod answer_objects;
-mod apart;
-mod asking;
-mod batch_task;
-mod board_lists;
-mod board_sources;
-mod cert_names;
-mod certs;
-mod check_task;
-mod column_lengths;
-mod command_games;
-mod deal_task;
-mod each;
-mod endings;
-mod entry_pages;
-mod found_answers;
-mod hand_counts;
-mod hand_entries;
-mod hint_task;
-mod links;
-mod list_hints;
-mod listing_tallies;
-mod listings;
-mod moves;
-mod notes;
-mod others;
-mod outputs;
-mod pair_lists;
-mod printed_lists;
-mod refused_entries;
-mod replay_objects;
-mod replay_task;
-mod review_listings;
-mod review_objects;
-mod review_task;
-mod review_texts;
-mod show_task;
-mod streams;
-mod telling;
-mod token_fronts;
-mod watching;
-mod written_lists;
+mod input;
+mod output;
+mod task;
 
 ghost use Rattle.fc_words.specs.Sound.{IsSoundCommand};
 
-use board_sources::listed_board;
 use clap::error::ErrorKind;
-use command_games::in_game;
-use endings::{Ending, REFUSED, tell};
 use fc_runs::ProgramFault;
 use fc_words::{Command, WordsFault, is_number, is_subcommand, mean_board, read};
+use input::board_sources::listed_board;
+use input::command_games::in_game;
+use input::streams::StandIns;
+use output::endings::{Ending, REFUSED, tell};
 use std::fs::exists;
 use std::process::ExitCode;
 use std::{env, io};
-use streams::StandIns;
+use task::deal_task::deal;
 
 fn main(rt: HostRuntime) -> ExitCode {
     let _stand_ins = StandIns::new(&rt);
@@ -139,7 +99,7 @@ fn follow(rt: &HostRuntime, command: &Command<'_>) -> Result<u8, Ending>
     requires sound { IsSoundCommand command.now }
 {
     match command {
-        Command::Deal(words) => deal_task::deal(rt, words),
+        Command::Deal(words) => deal(rt, words),
         Command::Show(words) => in_game(rt, &words.game, words),
         Command::Best(words) => in_game(rt, &words.game, words),
         Command::Hint(words) => in_game(rt, &words.game, words),

@@ -1,0 +1,181 @@
+//! An answer as it was found: all that is printed of it is made of this.
+
+ghost use Rattle.std.specs.Prelude.{◌<◌, ◌^◌, All, length};
+ghost use Rattle.fc_answers.specs.Verdict.{CanBeWritten};
+ghost use Rattle.fc_moves.specs.GameRules.{IsPositionOf};
+ghost use Rattle.fc_moves.specs.MoveText.{HasText};
+
+use crate::output::certs::CertFile;
+use fc_answer_text::{moves_text, outcome_of, verdict_status, verdict_text};
+use fc_answers::{Answer, MoveList, Outcome, Verdict};
+use fc_best::{Listener, Wants, answer};
+use fc_methods::Question;
+use fc_moves::{Game, Move};
+use fc_position::Position;
+use fc_runs::{Output, ProgramFault, write_certificate};
+use std::alloc::{AllocError, Global};
+use std::marker::Model;
+
+/// An answer, and the lines that tell it in letters.
+#[derive(Drop)]
+pub struct Answered {
+    verdict: Verdict,
+    text: Vec<u8>,
+    // The last of these lines, that of the moves; nothing of an answer without a list.
+    letters: Vec<u8>,
+}
+
+impl Model for Answered {
+    ghost use Rattle.fc_answers.specs.Verdict.{CanBeWritten};
+    ghost use Rattle.fc_answers.specs.declared.answers.Verdict.{Verdict};
+
+    ghost Value = { Verdict };
+
+    ghost view = { λ a. a.verdict };
+
+    ghost invariant = { λ a. CanBeWritten a.verdict };
+}
+
+impl Answered {
+    /// The answer by a list that wins, and by a number of moves that no list that wins is below.
+    ///
+    /// # Errors
+    /// A growth of memory was refused.
+    pub fn of_list(alloc: Global, moves: &MoveList, floor: u32) -> Result<Answered, AllocError>
+        requires texts { All HasText moves.now }
+        requires few { length moves.now < 2 ^ 32 }
+    {
+        let list = MoveList::new(Vec::from_slice(alloc, moves.as_slice())?);
+        let verdict = if list.len() <= floor as usize {
+            Verdict::Shortest(list)
+        } else {
+            Verdict::Won { moves: list, floor }
+        };
+        let text = verdict_text(alloc, &verdict)?;
+        let letters = letters_of(alloc, &verdict)?;
+        Ok(Answered {
+            verdict,
+            text,
+            letters,
+        })
+    }
+
+    /// What is told of the board.
+    pub fn verdict(&self) -> &Verdict {
+        &self.verdict
+    }
+
+    /// What the answer is called.
+    pub fn name(&self) -> &'static str {
+        match self.verdict {
+            Verdict::Shortest(_) => "shortest",
+            Verdict::Won { .. } => "won",
+            Verdict::CannotWin => "can't be won",
+            Verdict::GaveUp(_) => "gave up",
+        }
+    }
+
+    /// How many moves its list has, if it has one.
+    pub fn count(&self) -> Option<u32> {
+        match outcome_of(&self.verdict) {
+            Outcome::Shortest(moves) | Outcome::Won { moves, .. } => Some(moves),
+            Outcome::CannotWin | Outcome::GaveUp(_) => None,
+        }
+    }
+
+    /// How many moves each list that wins has at least, where it tells a list.
+    pub fn floor(&self) -> Option<u32> {
+        match outcome_of(&self.verdict) {
+            Outcome::Shortest(floor) | Outcome::Won { floor, .. } => Some(floor),
+            Outcome::CannotWin | Outcome::GaveUp(_) => None,
+        }
+    }
+
+    /// The exit status that tells it.
+    pub fn status(&self) -> u8 {
+        verdict_status(&self.verdict)
+    }
+
+    /// The moves of its list; none where it has no list.
+    pub fn moves(&self) -> &[Move]
+        ensures texts { All HasText result.now }
+    {
+        match &self.verdict {
+            Verdict::Shortest(moves) | Verdict::Won { moves, .. } => moves.as_slice(),
+            Verdict::CannotWin | Verdict::GaveUp(_) => &[],
+        }
+    }
+
+    /// The lines that tell it in letters.
+    pub fn text(&self) -> &[u8] {
+        self.text.as_slice()
+    }
+
+    /// The first of these lines.
+    pub fn told(&self) -> &[u8] {
+        let text = self.text.as_slice();
+        text.strip_suffix(self.letters.as_slice()).unwrap_or(text)
+    }
+
+    /// The line of its moves, two letters each with a blank between; nothing where it has no list.
+    pub fn letters(&self) -> &[u8] {
+        self.letters.as_slice()
+    }
+}
+
+// The line of the moves of a verdict, if it has any.
+fn letters_of(alloc: Global, verdict: &Verdict) -> Result<Vec<u8>, AllocError>
+    requires written { CanBeWritten verdict.now }
+{
+    match verdict {
+        Verdict::Shortest(moves) | Verdict::Won { moves, .. } => {
+            moves_text(alloc, moves.as_slice())
+        }
+        Verdict::CannotWin | Verdict::GaveUp(_) => Ok(Vec::new(alloc)),
+    }
+}
+
+/// What a question is answered of a board. Where a file is given for it, its certificate is written there.
+///
+/// # Errors
+/// In this order: want of memory; a certificate that can't be written, of which a front may be.
+pub fn find_answer<G: Game + Drop, L: Listener>(
+    alloc: Global,
+    question: &Question<G>,
+    start: &Position,
+    cert: Option<&mut CertFile>,
+    listener: &mut L,
+) -> Result<Answered, ProgramFault>
+    requires position { IsPositionOf question.now.game start.now }
+{
+    let wants = if cert.is_some() {
+        Wants::Table
+    } else {
+        Wants::Verdict
+    };
+    let answer = answer(alloc, question, start, wants, listener)?;
+    certified(alloc, question.game(), answer, cert)
+}
+
+// The answer with its lines, once its certificate is written where a file is given for it.
+fn certified<G: Game>(
+    alloc: Global,
+    game: &G,
+    answer: Answer,
+    cert: Option<&mut CertFile>,
+) -> Result<Answered, ProgramFault>
+    requires written { CanBeWritten answer.verdict }
+{
+    let text = verdict_text(alloc, &answer.verdict)?;
+    let letters = letters_of(alloc, &answer.verdict)?;
+    if let Some(cert) = cert {
+        let Ok(()) = write_certificate(game, &answer, cert) else {
+            return Err(ProgramFault::Write(Output::Cert));
+        };
+    }
+    Ok(Answered {
+        verdict: answer.verdict,
+        text,
+        letters,
+    })
+}
