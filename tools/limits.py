@@ -14,6 +14,11 @@ from contracts import files_below, heads_of, text_of
 
 MOST_PARAMETERS = 6
 MOST_LINES = 400
+# Of a clause, with its blanks collapsed.
+MOST_LETTERS = 240
+# A definition is named for a thing, not for what was done to one: these and words that end in -ed are no names.
+PARTICIPLES = set("begun built dealt drawn found given gone grown heard held kept known laid left lost made met put read said seen sent "
+                  "shown spelt split spent stood taken told written".split())
 # Of the README of a crate.
 MOST_WORDS = 150
 # The product's definition writes these calls out, with a game, a home rule and a budget one by one.
@@ -40,11 +45,11 @@ def parted(words, at):
     return [it.strip() for it in parts if it.strip()]
 
 
-def enclosed(text, start):
-    """What stands in the round brackets that open at this place."""
+def enclosed(text, start, pair="()"):
+    """What stands in the brackets of this kind that open at this place."""
     depth = 0
     for at in range(start, len(text)):
-        depth += (text[at] == "(") - (text[at] == ")")
+        depth += (text[at] == pair[0]) - (text[at] == pair[1])
         if depth == 0:
             return text[start + 1 : at]
     return text[start + 1 :]
@@ -74,6 +79,18 @@ def definitions(path):
                 yield head[1], parameters(re.sub(r"\bwhere$", "", said))
 
 
+def clauses(path):
+    """Each clause of a source file that promises something, with the line where it begins and its length."""
+    text = text_of(path)
+    for it in re.finditer(r"^ *(?:ensures|requires|ghost \w+ =)[^\n{]*\{", text, re.M):
+        said = it[0].strip() + enclosed(text, it.end() - 1, "{}") + "}"
+        yield text.count("\n", 0, it.start()) + 1, len(re.sub(r"\s+", " ", said))
+
+
+def is_participle(name):
+    return name.isalpha() and name.islower() and (name.endswith("ed") or name in PARTICIPLES)
+
+
 def parameters(said):
     """How many parameters stand before the colon of a definition's head and before its last arrow."""
     before, _, kind = said.partition(":") if not said.startswith("(") else split_at_colon(said)
@@ -97,6 +114,9 @@ def split_at_colon(said):
 
 def past_limits():
     for path in files_below("crates", ".rt"):
+        for line, letters in clauses(path):
+            if letters > MOST_LETTERS:
+                yield f"{path}:{line}: a clause of {letters} letters"
         for name, count in functions(path):
             if count > MOST_PARAMETERS and name not in WRITTEN_OUT and not TESTS.match(path):
                 yield f"{path}: the function {name} has {count} parameters"
@@ -105,6 +125,8 @@ def past_limits():
             for name, count in definitions(path):
                 if count > MOST_PARAMETERS:
                     yield f"{path}: the definition {name} has {count} parameters"
+                if is_participle(name[0].lower() + name[1:]):
+                    yield f"{path}: the definition {name} has a participle for a name"
     for path in [*files_below("crates", ".rt"), *files_below("crates", ".antt")]:
         lines = text_of(path).count("\n")
         if lines > MOST_LINES and not TESTS.match(path):
