@@ -1,9 +1,10 @@
 -- What a table of several deals promises, over any sink.
-use Rattle.std.specs.Prelude.{◌≡◌, ◌⊎◌, ℕ, ◌+◌, ◌≤◌, List, ◌++◌, length, map, slice_get, Some, None, IsTrue, codes, decimal}
+use Rattle.std.specs.Prelude.{◌≡◌, ◌⊎◌, ℕ, ◌+◌, ◌≤◌, List, [], ◌∷◌, ◌++◌, length, map, slice_get, Option, Some, None, IsTrue, codes, decimal}
 use Rattle.std.specs.List.{flat_map}
 use Rattle.fc_io.specs.Moves.{TakesBytes, TakesFront}
 use Rattle.fc_deal.specs.Deal.{IsDealNumber, dealt_board}
 use Rattle.fc_methods.specs.Method.{QuestionData}
+use Rattle.fc_search.specs.Watch.{HearsAll}
 use Rattle.fc_board_runs.specs.declared.faults.Output.TheVariants.{Answer as of_answer}
 use Rattle.fc_board_runs.specs.declared.faults.ProgramFault.{ProgramFault}
 use Rattle.fc_board_runs.specs.declared.faults.ProgramFault.TheVariants.{Number, Range, Write}
@@ -34,6 +35,10 @@ table_text rows = names_text ++ flat_map row_text rows
 abbrev pub line_of : DealRow → Line
 line_of row = record { deal = row.deal; told = row.row.told }
 
+-- a listener hears of these rows, one after the other, and of nothing else
+abbrev pub HearsRows : {L : Type 0} → (L → Row → L → Type 0) → L → L → List DealRow → Type 0
+HearsRows hears old new rows = HearsAll hears old (map (λ row. row.row) rows) new
+
 -- rows that are right, one a deal, rising from this one
 pub record AreRows (q : QuestionData) (from : ℕ) (rows : List DealRow) : Type 0 where
   pub rising : (i : ℕ) (row : DealRow) → slice_get rows i ≡ Some row → row.deal ≡ from + i
@@ -54,31 +59,46 @@ IsTableUnasked from to (Number told) =
 IsTableUnasked from to Range = IsDealNumber from × IsDealNumber to × (from ≤ to → ⊥)
 IsTableUnasked from to other = ⊥
 
--- so many deals were told: the sink took the names and a row for each, and the status is the greatest of theirs
-pub record AreTabled (q : QuestionData) (from count : ℕ) (sink : Device) (status : ℕ) : Type 0 where
+-- so many deals were told: the sink took the names and a row for each, the listener heard of these rows, and the status is the
+-- greatest of theirs
+pub record AreTabled (q : QuestionData) (from count : ℕ) (sink : Device) (hears : List DealRow → Type 0) (status : ℕ) : Type 0 where
   pub rows : List DealRow
   pub right : AreRows q from rows
   pub whole : length rows ≡ count
   pub written : TakesBytes sink.old sink.new (table_text rows)
   pub sound : IsTrue sink.failed → ⊥
   pub greatest : status ≡ greatest_status (map line_of rows)
+  pub heard : hears rows
 
 -- a table was told: it can be asked for, and each of its deals was told
-pub record IsTabled (q : QuestionData) (from to : ℕ) (sink : Device) (status : ℕ) : Type 0 where
+pub record IsTabled (q : QuestionData) (from to : ℕ) (sink : Device) (hears : List DealRow → Type 0) (status : ℕ) : Type 0 where
   pub count : ℕ
   pub asked : IsTableAsked from to count
-  pub told : AreTabled q from count sink status
+  pub told : AreTabled q from count sink hears status
 
--- the sink failed while it was given the names and the rows of at most so many deals
-pub record IsTableCutShort (q : QuestionData) (from count : ℕ) (sink : Device) : Type 0 where
+-- the sink took the names and the rows before the last one, which the listener heard of, and then a front of that one, of which it
+-- didn't hear
+pub record IsCutAtLast (sink : Device) (hears : List DealRow → Type 0) (rows : List DealRow) : Type 0 where
+  pub before : List DealRow
+  pub last : DealRow
+  pub parts : rows ≡ before ++ last ∷ []
+  pub mid : Option (List ℕ)
+  pub written : TakesBytes sink.old mid (table_text before)
+  pub front : TakesFront mid sink.new (row_text last)
+  pub heard : hears before
+
+-- the sink failed while it was given the names and the rows of at most so many deals: at the names, and the listener heard of no
+-- row; or at the last of the rows
+pub record IsTableCutShort (q : QuestionData) (from count : ℕ) (sink : Device) (hears : List DealRow → Type 0) : Type 0 where
   pub rows : List DealRow
   pub right : AreRows q from rows
   pub some : length rows ≤ count
   pub front : TakesFront sink.old sink.new (table_text rows)
   pub failed : IsTrue sink.failed
+  pub heard : ((rows ≡ []) × hears []) ⊎ IsCutAtLast sink hears rows
 
--- why no table was told, or not all of one: it can't be asked for, and nothing is written; or the sink failed
-abbrev pub IsTableFault : QuestionData → ℕ → ℕ → Device → ProgramFault → Type 0
-IsTableFault q from to sink (Write of_answer) =
-    (count : ℕ) × IsTableAsked from to count × IsTableCutShort q from count sink
-IsTableFault q from to sink fault = IsTableUnasked from to fault × IsUntouched sink
+-- why no table was told, or not all of one: it can't be asked for, and nothing is written or heard of; or the sink failed
+abbrev pub IsTableFault : QuestionData → ℕ → ℕ → Device → (List DealRow → Type 0) → ProgramFault → Type 0
+IsTableFault q from to sink hears (Write of_answer) =
+    (count : ℕ) × IsTableAsked from to count × IsTableCutShort q from count sink hears
+IsTableFault q from to sink hears fault = IsTableUnasked from to fault × IsUntouched sink × hears []

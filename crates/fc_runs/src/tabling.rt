@@ -4,7 +4,7 @@ ghost use Rattle.std.specs.Prelude.{◌≡◌, ◌+◌, ◌≤◌, None, IfOk, I
 ghost use Rattle.fc_deal.specs.Deal.{IsDealNumber, dealt_board};
 ghost use Rattle.fc_board_runs.specs.Devices.{change};
 ghost use Rattle.fc_runs.specs.Rows.{IsRowOf};
-ghost use Rattle.fc_runs.specs.Tabling.{AreTabled, IsTableAsked, IsTabled, IsTableCutShort, IsTableFault, IsTableUnasked, names_text, row_text};
+ghost use Rattle.fc_runs.specs.Tabling.{AreTabled, HearsRows, IsTableAsked, IsTabled, IsTableCutShort, IsTableFault, IsTableUnasked, names_text, row_text};
 
 use crate::answer_rows::{Row, plain_row};
 use arrayvec::ArrayString;
@@ -18,8 +18,14 @@ use std::alloc::Global;
 
 /// Who hears of the rows of a table, of each as soon as it is written.
 pub trait RowListener {
+    ghost use Rattle.fc_runs.specs.declared.answer_rows.Row.{Row};
+
+    /// What hearing of a row does to the listener.
+    ghost hears: { Self → Row → Self → Type 0 };
+
     /// Hears of a row.
-    fn hear_row(&mut self, row: &Row);
+    fn hear_row(&mut self, row: &Row)
+        ensures heard { hears self.old row.now self.new };
 }
 
 /// The first line of a table of deals: the names of the columns.
@@ -34,11 +40,11 @@ pub fn table_head() -> &'static str
 /// ended. A row has the number of the deal, and the cells that `Row::cells` tells. Where memory is wanted for one deal, the next
 /// one goes on. The status is the greatest of the rows': 0 for a solution, 1 where a deal can't be won, 2 on giving up, 4 for want
 /// of memory. No list of moves wins a row's deal in fewer than its floor. Nothing of one deal is kept for the next. The listener hears
-/// of each row that is written.
+/// of each row that is written, in their order, and of nothing else.
 ///
 /// # Errors
 /// In this order: a number outside 1 to 1,000,000, `from` before `to`; no deal, and nothing is written; or a table that can't be
-/// written, of which a front may be.
+/// written, of which a front may be: the listener heard of the rows before the one that couldn't be.
 pub fn run_table<G: Game + Drop, K: Sink, L: RowListener>(
     alloc: Global,
     question: &Question<G>,
@@ -48,9 +54,9 @@ pub fn run_table<G: Game + Drop, K: Sink, L: RowListener>(
     listener: &mut L,
 ) -> Result<u8, ProgramFault>
     ensures tabled { IfOk result (IsTabled question.now from to
-        (change K.held K.has_failed out.old out.new)) }
+        (change K.held K.has_failed out.old out.new) (HearsRows L.hears listener.old listener.new)) }
     ensures fault { IfErr result (IsTableFault question.now from to
-        (change K.held K.has_failed out.old out.new)) }
+        (change K.held K.has_failed out.old out.new) (HearsRows L.hears listener.old listener.new)) }
 {
     let count = table_deals(from, to)?;
     match write_table(alloc, question, from, count, out, listener) {
@@ -91,9 +97,9 @@ fn write_table<G: Game + Drop, K: Sink, L: RowListener>(
     requires first { 1 ≤ from }
     requires last { from + count ≤ 1000001 }
     ensures tabled { IfOk result (AreTabled question.now from count
-        (change K.held K.has_failed out.old out.new)) }
+        (change K.held K.has_failed out.old out.new) (HearsRows L.hears listener.old listener.new)) }
     ensures cut { OnErr result (IsTableCutShort question.now from count
-        (change K.held K.has_failed out.old out.new)) }
+        (change K.held K.has_failed out.old out.new) (HearsRows L.hears listener.old listener.new)) }
 {
     write_all(out, table_head().as_bytes())?;
     let mut greatest = 0;

@@ -63,6 +63,8 @@ impl<'a> RowTally<'a> {
 }
 
 impl RowListener for RowTally<'_> {
+    ghost hears = { λ _ _ _. Unit {0} };
+
     fn hear_row(&mut self, row: &Row) {
         self.note(row.answer_name());
     }
