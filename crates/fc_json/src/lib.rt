@@ -4,5 +4,6 @@
 pub use objects::{ToldBoard, object_text};
 pub use reviews::{ToldList, review_object_text};
 
+pub mod laws;
 mod objects;
 mod reviews;
