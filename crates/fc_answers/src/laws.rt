@@ -17,7 +17,7 @@ pub fn only_giving_up_is_uncertified()
     ensures { OnlyGivingUpIsUncertified }
 {}
 
-/// A table lists at most 16,000,000 classes, and an answer that can be written has at most 1,000 moves more than that.
+/// A table lists at most 16,000,000 classes, and a list that is answered has at most 16,001,000 moves.
 pub fn numbers_are_told()
     ensures { NumbersAreTold }
 {}

@@ -93,8 +93,9 @@ impl<K: ExactKey, F: Frontier + Drop, S: Space<K> + Drop> Search<K, F, S> {
         Search::below(alloc, space, strategy, None)
     }
 
-    /// A search that has had no turn, and wants no answer that reaches the limit, if there is one: a key whose cost plus bound
-    /// does is never stored, but the one that starts. Where it ends with nothing open, no answer is below the limit.
+    /// A search that has had no turn, and wants no answer that reaches the limit, if there is one: where a key is met whose cost plus
+    /// the number shown of it there reaches it, it isn't stored, but for the one that starts. Where it ends with nothing open, no answer
+    /// is below the limit.
     ///
     /// # Errors
     /// A growth was refused.
@@ -176,8 +177,8 @@ impl<K: ExactKey, F: Frontier + Drop, S: Space<K> + Drop> Search<K, F, S> {
         self.floor
     }
 
-    /// The least that the keys tell that are still open, and at most a number: each its cost plus bound, the bound counted once, or
-    /// the f at which it is open over how many times a bound counts, rounded up, where that is more.
+    /// The least that the keys tell that are still open, and at most a number: each its cost plus the number shown of it, counted once,
+    /// or the f at which it is open over how many times that counts, rounded up, where that is more.
     pub fn least_open(&self, most: u32) -> u32
         requires sound { IsSound (task_of S.graph self.now) self.now.store }
         ensures value { IsLeastOpen (task_of S.graph self.now) self.now.store most result }

@@ -8,12 +8,13 @@ pub enum Expansion {
     /// All of them.
     #[default]
     Full,
-    /// Those whose weighed cost plus bound is no greater than the f that was taken. The others are put off: the key is open
-    /// again at the least f of those, and is expanded again when that is taken. It stores fewer keys, and expands more often.
+    /// Those whose cost plus the number shown of them, both weighed, is no greater than the f that was taken. The others are put off:
+    /// the key is open again at the least f of those, and is expanded again when that is taken. It stores fewer keys, and expands more
+    /// often.
     Partial,
 }
 
-/// How a space is searched: how much a bound counts, which children are stored, and how many keys may be.
+/// How a space is searched: how much what is shown of a key counts, which children are stored, and how many keys may be.
 #[derive(Clone, Copy, Debug, PartialEq, Eq)]
 pub struct Strategy {
     pub weight: Weight,

@@ -64,7 +64,7 @@ impl<F: Frontier + Drop, G: Game + Drop> Search<F, G> {
     }
 
     /// A search of a question for a position that fits its game, which wants no list of so many moves as the limit, if there is
-    /// one: of the classes after the first it stores none whose cost and bound are so many. It has had no turn.
+    /// one: after the first it stores no class where its cost and the number shown of it there are so many. It has had no turn.
     ///
     /// # Errors
     /// A growth was refused.
@@ -88,7 +88,7 @@ impl<F: Frontier + Drop, G: Game + Drop> Search<F, G> {
         }
     }
 
-    /// One turn: a running search takes one open class of least cost and weighed bound, which is its floor from then on, where
+    /// One turn: a running search takes one open class of least cost plus number shown, both weighed, which is its floor from then on, where
     /// it is greater. A search that is done answers `Done` and stays as it is.
     ///
     /// # Errors
