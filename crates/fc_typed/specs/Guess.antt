@@ -30,6 +30,10 @@ pub record LacksFirst (text : List ℕ) (s n : ℕ) : Type 0 where
 abbrev pub LacksFirstOfEach : List ℕ → List ℕ → Type 0
 LacksFirstOfEach text counts = (s : ℕ) → s < 4 → LacksFirst text s (slice_index counts s)
 
+-- no column and no cell has a card
+abbrev pub TellsNoCard : List ℕ → Type 0
+TellsNoCard text = (c : ℕ) → c < 52 → TellsNowhere text c
+
 -- the token tells so many cards of the card's suit that it is one of them
 pub record TokenTellsHome (c : ℕ) (token : List ℕ) : Type 0 where
   pub count : ℕ

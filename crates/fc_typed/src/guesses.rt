@@ -4,7 +4,7 @@ ghost use Rattle.fc_cards.specs.Suit.{suit_index};
 ghost use Rattle.fc_position.specs.Board.{Board};
 ghost use Rattle.fc_text.specs.Board.{Spells};
 ghost use Rattle.fc_text.specs.Printed.{count_letter, home_text};
-ghost use Rattle.fc_typed.specs.Guess.{AreCounts, LacksFirst, LacksFirstOfEach, first_line, foundation_line, with_foundations};
+ghost use Rattle.fc_typed.specs.Guess.{AreCounts, LacksFirst, LacksFirstOfEach, TellsNoCard, first_line, foundation_line, with_foundations};
 
 use crate::labels::line_len;
 use crate::missing::stands_nowhere;
@@ -37,15 +37,20 @@ impl GuessedText {
     /// The tidy text of a board without its foundations, behind the line that tells them, for a game with so many cells:
     /// of each suit the cards are home, from the ace, that stand in no column and no cell.
     ///
-    /// `None` where no line of counts makes the text a board, as where it has a foundation line of its own.
+    /// `None` where no line of counts makes the text a board, as where it has a foundation line of its own, and where no column
+    /// and no cell has a card: such a text tells of no board.
     pub fn of(text: &[u8], cells: u8) -> Option<GuessedText>
         requires game { cells ≤ 4 }
         ensures line { IfSome result (λ guess. (counts : List ℕ) × LacksFirstOfEach text.now counts
             × (guess ≡ with_foundations counts text.now)) }
         ensures spelled { IfSome result (λ guess. (b : Board) × Spells cells guess b) }
-        ensures none { IfNone result ((counts : List ℕ) (b : Board) → AreCounts counts
+        ensures card { IfSome result (λ _. TellsNoCard text.now → ⊥) }
+        ensures none { IfNone result ((TellsNoCard text.now → ⊥) → (counts : List ℕ) (b : Board) → AreCounts counts
             → Spells cells (with_foundations counts text.now) b → ⊥) }
     {
+        if tells_no_card(text) {
+            return None;
+        }
         let counts = lacked_counts(text);
         let mut bytes = foundation_text(counts);
         if bytes.try_extend_from_slice(text).is_err() {
@@ -75,6 +80,19 @@ impl GuessedText {
     {
         self.bytes.as_slice()
     }
+}
+
+// Whether no column and no cell has a card.
+fn tells_no_card(text: &[u8]) -> bool
+    ensures { IsTrue result ↔ TellsNoCard text.now }
+{
+    for index in 0..52 {
+        let card = Card::from_index(index).unwrap();
+        if !stands_nowhere(text, card) {
+            return false;
+        }
+    }
+    true
 }
 
 // How many cards of each suit, from the ace, stand in no column and no cell.

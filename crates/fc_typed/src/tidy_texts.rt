@@ -97,6 +97,7 @@ impl TidyText {
     /// Its bytes, at most 36,864.
     pub fn bytes(&self) -> &[u8]
         ensures value { result.now ≡ self.now }
+        ensures most { length result.now ≤ 36864 }
     {
         self.bytes.as_slice()
     }
