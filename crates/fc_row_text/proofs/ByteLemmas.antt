@@ -1,5 +1,5 @@
 -- The words of a text hold no gaps, and lines that are ended are read one by one.
-use Rattle.std.proofs.Common.{◌≡◌, ℕ, zero, suc, ◌-◌, ◌*◌, ◌<◌, ◌==◌, false, cond, List, [], ◌∷◌, ◌++◌, length, map, take, drop, get_or, refl, ◌∙◌, ap, append_assoc, arith}
+use Rattle.std.proofs.Common.{◌≡◌, ℕ, zero, suc, ◌-◌, ◌*◌, ◌<◌, ◌==◌, false, cond, Option, Some, None, List, [], ◌∷◌, ◌++◌, length, map, take, drop, get_or, refl, ◌∙◌, ap, append_assoc, arith}
 use Rattle.std.specs.Prelude.{filter, slice_index}
 use Rattle.std.specs.List.{flat_map}
 use Rattle.std.proofs.lemmas.Bool.{cond_both, ltb-false}
@@ -8,7 +8,9 @@ use Rattle.fc_cards.specs.Texts.{with_line_end}
 use Rattle.fc_position.specs.Board.{front_of}
 use Rattle.fc_text.specs.Line.{begin_part, is_line_end, is_token, lines_of, parts_of, without_return}
 use Rattle.fc_text.proofs.PrintedPieces.{AllAbove, ArePrinted}
-use Rattle.fc_row_text.specs.RowText.{entry_at, is_drawn, is_row_gap, word_at, words_of}
+use Rattle.fc_row_text.specs.RowText.{RowLine, entry_at, entry_of, word_at, words_of}
+use Rattle.fc_row_text.specs.declared.spans.Span.{Span}
+use Rattle.fc_row_text.specs.Places.{is_row_gap}
 
 -- each byte of each part is above the space
 abbrev pub AreAbove : List (List ℕ) → Type 0
@@ -42,10 +44,12 @@ word-above (word ∷ words) (suc k) p = word-above words k p.1
 pub word_at-above : (k : ℕ) (text : List ℕ) → AllAbove 32 (word_at k text)
 word_at-above k text = word-above (words_of text) k (kept-printed (parts_of is_row_gap text) (parts-above text))
 
-pub entry_at-above : (k : ℕ) (line : List ℕ) → AllAbove 32 (entry_at k line)
-entry_at-above k line =
-    let place = take 3 (drop (3 * k) line) in
-    cond_both (is_drawn line) (word_at 0 place) (word_at k line) (AllAbove 32) (λ _. word_at-above 0 place) (λ _. word_at-above k line)
+entry-above : (o : Option Span) (line : List ℕ) → AllAbove 32 (entry_of o line)
+entry-above None line = tt
+entry-above (Some word) line = word_at-above (word.number - 1) line
+
+pub entry_at-above : (k : ℕ) (told : RowLine) → AllAbove 32 (entry_at k told)
+entry_at-above k told = entry-above (get_or told.reading.entries k None) told.line
 
 -- so the first bytes of a word
 pub take-above : (m n : ℕ) (bytes : List ℕ) → AllAbove m bytes → AllAbove m (take n bytes)

@@ -17,11 +17,12 @@ use Rattle.fc_text.specs.Line.{is_token}
 use Rattle.fc_text.specs.Printed.{cell_text, entries_text, home_text}
 use Rattle.fc_text.specs.Spelling.{SpellsCard, SpellsCellAt}
 use Rattle.fc_text.proofs.PrintedPieces.{AllAbove}
-use Rattle.fc_show.specs.Drawing.{held_entry, names_row, top_card, top_names, top_row, style_without_mark}
+use Rattle.fc_show.specs.Drawing.{held_entry, top_card, top_names, top_row, style_without_mark}
 use Rattle.fc_row_text.specs.RowText.{are_numbers, cells_named, cells_head, held_or, home_entry, homes_head, kind_below, own_kind, word_at, words_of}
 use Rattle.fc_row_text.specs.declared.row_lines.RowLineKind.TheVariants.{Blank, Names, Numbers, Held}
 use Rattle.fc_row_text.proofs.ByteLemmas.{AreAbove}
 use Rattle.fc_row_text.proofs.DrawnWords.{AreHeld, Cards, above-both, entries-above, held-above, held-is, held-words, held_parts, words-entries}
+use Rattle.fc_row_text.proofs.DrawnPlaces.{numbers_line}
 use Rattle.fc_row_text.proofs.DrawnRows.{AllCards}
 
 -- what holds of none to four cells
@@ -43,9 +44,6 @@ names-above = by_cells (λ n. AllAbove 31 (top_names n)) (search rules) (search 
 
 pub names-long : (n : ℕ) → n ≤ 4 → length (top_names n) ≤ 27
 names-long = by_cells (λ n. length (top_names n) ≤ 27) (omega arith) (omega arith) (omega arith) (omega arith) (omega arith)
-
-abbrev pub numbers_line : List ℕ
-numbers_line = names_row (codes "12345678")
 
 pub numbers-kind : kind_below None numbers_line ≡ Numbers
 unfolding cells_named are_numbers

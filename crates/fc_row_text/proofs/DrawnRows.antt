@@ -11,10 +11,11 @@ use Rattle.fc_text.specs.Printed.{entries_text}
 use Rattle.fc_text.specs.Spelling.{is_column}
 use Rattle.fc_text.proofs.PrintedPieces.{AllAbove}
 use Rattle.fc_show.specs.Drawing.{height, row, style_without_mark}
-use Rattle.fc_row_text.specs.RowText.{RowLine, are_numbers, cells_named, entry_at, entry_count, entry_text, has_places, held_or, is_drawn, kind_below, named_or_row, own_kind, entry_text_at, word_at, words_of}
+use Rattle.fc_row_text.specs.RowText.{RowLine, are_numbers, cells_named, entry_at, entry_of, entry_text, held_or, kind_below, named_or_row, own_kind, entry_text_at, words_of}
 use Rattle.fc_row_text.specs.declared.row_lines.RowLineKind.TheVariants.{Blank, Kept, Row}
 use Rattle.fc_row_text.proofs.ByteLemmas.{without_return-same}
-use Rattle.fc_row_text.proofs.DrawnWords.{AreHeld, Cards, card_entry, entries-above, place-at, place-word, place_word, places, places-above, places-are, places-column, places-drawn, row-is, somes, words-places}
+use Rattle.fc_row_text.proofs.DrawnPlaces.{drawn-entry, drawn_entries, drawn_reading}
+use Rattle.fc_row_text.proofs.DrawnWords.{AreHeld, Cards, card_entry, entries-above, place_word, places, places-above, places-are, places-column, row-is, somes, words-places}
 
 -- names and numbers are shorter than cards
 no_names : (c : ℕ) (words : List (List ℕ)) → cells_named (card_text c ∷ words) ≡ None
@@ -48,14 +49,6 @@ places-row held all some =
     ap (λ t. cond t Blank (held_or None (own_kind (places held)))) tests.0 ∙ cond-true _ own Kept column
     ∙ ap (λ n. named_or_row n (are_numbers words)) tests.1 ∙ ap (named_or_row None) tests.2
 
--- it is drawn
-places-are_drawn : (held : List (Option ℕ)) → AreHeld held → length held ≡ 8 → is_drawn (places held) ≡ true
-unfolding is_drawn
-places-are_drawn held all eight = ap (λ n. has_places n (places held)) (sym eight) ∙ places-drawn held all
-
-pub places-count : (held : List (Option ℕ)) → AreHeld held → length held ≡ 8 → entry_count (places held) ≡ 8
-places-count held all eight = cond-true _ 8 (length (words_of (places held))) (places-are_drawn held all eight)
-
 -- and has the card of a column in its place
 held-at : (held : List (Option ℕ)) (k : ℕ) → AreHeld held → AreHeld (get_or held k None ∷ [])
 held-at [] k all = tt
@@ -63,12 +56,6 @@ held-at (None ∷ held) zero all = tt
 held-at (Some c ∷ held) zero all = (all.0, tt)
 held-at (None ∷ held) (suc k) all = held-at held k all
 held-at (Some c ∷ held) (suc k) all = held-at held k all.1
-
-pub places-entry : (held : List (Option ℕ)) (k : ℕ) → AreHeld held → length held ≡ 8 → k < 8
-    → entry_at k (places held) ≡ place_word (get_or held k None)
-places-entry held k all eight below =
-    cond-true _ (word_at 0 (take 3 (drop (3 * k) (places held)))) (word_at k (places held)) (places-are_drawn held all eight)
-    ∙ ap (word_at 0) (place-at held k (omega arith)) ∙ place-word (get_or held k None) (held-at held k all)
 
 -- the text of a place
 abbrev place_text : Option ℕ → List ℕ
@@ -121,18 +108,28 @@ column-height (cards ∷ columns) (suc k) = let more = column-height columns k i
 
 -- the rows of a drawing say of a column its cards
 abbrev pub told_row : List (List ℕ) → ℕ → RowLine
-told_row columns i = record { kind = Row; line = row (style_without_mark false) columns i }
+told_row columns i = record {
+  kind = Row;
+  line = row (style_without_mark false) columns i;
+  reading = drawn_reading (row_of columns i);
+}
+
+pub told-word : (columns : List (List ℕ)) (i k : ℕ) → AllCards columns → length columns ≡ 8 → k < 8
+    → entry_at k (told_row columns i) ≡ place_word (slice_get (get_or columns k []) i)
+told-word columns i k p eight below =
+    let held = row_of columns i in
+    let here : get_or held k None ≡ slice_get (get_or columns k []) i =
+    get_or-map (λ (cards : List ℕ). slice_get cards i) columns k [] None (omega arith) in
+    ap (entry_of (get_or (drawn_entries held) k None)) (row-is columns i) ∙ drawn-entry held k (row-held columns i p) ∙ ap place_word here
 
 told-entry : (columns : List (List ℕ)) (i k : ℕ) → AllCards columns → length columns ≡ 8 → k < 8
     → entry_text_at k (told_row columns i) ≡ place_text (slice_get (get_or columns k []) i)
 told-entry columns i k p eight below =
-    let held = row_of columns i in
-    let long : length held ≡ 8 = length-map columns (λ (cards : List ℕ). slice_get cards i) ∙ eight in
-    let here : get_or held k None ≡ slice_get (get_or columns k []) i =
+    let o = slice_get (get_or columns k []) i in
+    let here : get_or (row_of columns i) k None ≡ o =
     get_or-map (λ (cards : List ℕ). slice_get cards i) columns k [] None (omega arith) in
-    ap (λ l. entry_text (entry_at k l)) (row-is columns i)
-    ∙ ap entry_text (places-entry held k (row-held columns i p) long below)
-    ∙ place-text (get_or held k None) (held-at held k (row-held columns i p)) ∙ ap place_text here
+    ap entry_text (told-word columns i k p eight below)
+    ∙ place-text o (subst (λ t. AreHeld (t ∷ [])) here (held-at (row_of columns i) k (row-held columns i p)))
 
 place-past : (cards : List ℕ) (i : ℕ) → length cards ≤ i → place_text (slice_get cards i) ≡ []
 place-past cards i past = ap place_text (slice_get_past cards i past)

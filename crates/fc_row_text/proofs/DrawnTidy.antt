@@ -20,10 +20,12 @@ use Rattle.fc_typed.specs.Title.{any_token, has_word}
 use Rattle.fc_typed.proofs.TidyBytes.{IsTidyLine, are_tidy, is_tidy_byte, tidy_already}
 use Rattle.fc_show.specs.Drawing.{drawing, height, held_entry, row, top_names, top_row, style_without_mark}
 use Rattle.fc_row_text.specs.Laws.{DrawingsAreTidy, DrawingsReadBack}
-use Rattle.fc_row_text.specs.RowText.{text_in_columns, is_row_gap, words_of}
+use Rattle.fc_row_text.specs.RowText.{text_in_columns, words_of}
+use Rattle.fc_row_text.specs.Places.{is_row_gap}
 use Rattle.fc_row_text.proofs.ByteLemmas.{NoEnds, lines-ended, no_end-above}
 use Rattle.fc_row_text.proofs.DrawnBoards.{Drawn, drawing-is, drawings_are, drawn, drawn-above, drawn_lines, drawn_rows}
-use Rattle.fc_row_text.proofs.DrawnHeads.{by_cells, cell_words, home_words, numbers_line, top-above, top-count, top-words, tops, tops-held}
+use Rattle.fc_row_text.proofs.DrawnHeads.{by_cells, cell_words, home_words, top-above, top-count, top-words, tops, tops-held}
+use Rattle.fc_row_text.proofs.DrawnPlaces.{numbers_line}
 use Rattle.fc_row_text.proofs.DrawnRows.{AllCards, places-line, row-held, row_of}
 use Rattle.fc_row_text.proofs.DrawnWords.{AreHeld, places, rank_of, row-is, somes, words-places}
 

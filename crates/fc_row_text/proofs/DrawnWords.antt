@@ -14,7 +14,8 @@ use Rattle.fc_text.specs.Spelling.{is_column}
 use Rattle.fc_text.proofs.PartLemmas.{tokens-gap}
 use Rattle.fc_text.proofs.PrintedPieces.{AllAbove, above-append}
 use Rattle.fc_show.specs.Drawing.{held_entry, place_entry, row, style_without_mark}
-use Rattle.fc_row_text.specs.RowText.{has_places, is_row_gap, is_none, is_place, word_at, words_of}
+use Rattle.fc_row_text.specs.RowText.{is_none, words_of}
+use Rattle.fc_row_text.specs.Places.{is_row_gap}
 use Rattle.fc_row_text.proofs.ByteLemmas.{AreAbove, above-lower}
 
 -- cards, and what is held
@@ -49,7 +50,7 @@ card_entry c below =
     ap (λ t. t && (suit_letter (suit c) == 45)) (ne_eqb (rank_letter (rank c)) 45 (λ e. absurd (omega (arith, e, first))))
 
 -- parts between gaps, of which the empty ones are no words
-no_gap : (b : ℕ) → 32 < b → is_row_gap b ≡ false
+pub no_gap : (b : ℕ) → 32 < b → is_row_gap b ≡ false
 no_gap b above = le-ltb b 33 above
 
 part-end : (part rest : List ℕ) → AllAbove 32 part → parts_of is_row_gap (part ++ 32 ∷ rest) ≡ part ∷ parts_of is_row_gap rest
@@ -141,39 +142,10 @@ pub words-places : (held : List (Option ℕ)) → AreHeld held → words_of (pla
 words-places held all =
     ap words_of (places-are held) ∙ words-entries (flat_map place_parts held) (places-above held all) ∙ places-words held
 
--- each has three bytes
-card_place : (c : ℕ) → c < 52 → is_place (32 ∷ card_text c) ≡ true
-card_place c below =
-    let p = card_above c below in rw (no_gap (rank_letter (rank c)) p.0) (rw (no_gap (suit_letter (suit c)) p.1.0) refl)
-
-pub places-drawn : (held : List (Option ℕ)) → AreHeld held → has_places (length held) (places held) ≡ true
-places-drawn [] all = refl
-places-drawn (None ∷ held) all = places-drawn held all
-places-drawn (Some c ∷ held) all =
-    ap (λ t. t && has_places (length held) (places held)) (card_place c all.0) ∙ places-drawn held all.1
-
-pub place-at : (held : List (Option ℕ)) (k : ℕ) → k < length held
-    → take 3 (drop (3 * k) (places held)) ≡ place_entry (style_without_mark false) (get_or held k None)
-place-at [] k within = absurd (omega arith)
-place-at (None ∷ held) zero within = refl
-place-at (Some c ∷ held) zero within = refl
-place-at (None ∷ held) (suc k) within =
-    let three : 3 * suc k ≡ suc (suc (suc (3 * k))) = omega arith in
-    ap (λ n. take 3 (drop n (places (None ∷ held)))) three ∙ place-at held k (omega arith)
-place-at (Some c ∷ held) (suc k) within =
-    let three : 3 * suc k ≡ suc (suc (suc (3 * k))) = omega arith in
-    ap (λ n. take 3 (drop n (places (Some c ∷ held)))) three ∙ place-at held k (omega arith)
-
 -- the card in a place, if there is one
 abbrev pub place_word : Option ℕ → List ℕ
 place_word None = []
 place_word (Some c) = card_text c
-
-pub place-word : (o : Option ℕ) → AreHeld (o ∷ []) → word_at 0 (place_entry (style_without_mark false) o) ≡ place_word o
-place-word None all = refl
-place-word (Some c) all =
-    ap (λ ws. get_or ws 0 []) (ap words_of (sym (append-nil (32 ∷ card_text c)))
-    ∙ words-entries (card_text c ∷ []) (card_above c all.0, tt))
 
 -- a row begins, after blanks, with a card
 no_blank : (b : ℕ) → 32 < b → is_blank b ≡ false

@@ -1,10 +1,10 @@
 pub mod ByteLemmas
 pub mod DrawnBoards
 pub mod DrawnHeads
+pub mod DrawnPlaces
 pub mod DrawnTidy
 pub mod DrawnRows
 pub mod DrawnWords
-pub mod EntryLemmas
 pub mod FaultLemmas
 pub mod PushLemmas
 pub mod ReadLemmas

@@ -7,9 +7,8 @@ use Rattle.std.proofs.lemmas.List.{append-nil}
 use Rattle.fc_cards.specs.Texts.{with_line_end}
 use Rattle.fc_row_text.specs.declared.faults.RowTextFault.{RowTextFault}
 use Rattle.fc_row_text.specs.declared.faults.RowTextFault.TheVariants.{TooLong}
-use Rattle.fc_row_text.specs.RowText.{RowLine, line_of_column, text_in_columns, columns_text, front_text, home_entry, most_bytes, row_lines_below, row_lines}
+use Rattle.fc_row_text.specs.RowText.{RowLine, line_of_column, text_in_columns, columns_text, front_text, home_entry, most_bytes, row_lines}
 use Rattle.fc_row_text.specs.inner.RowLine.{IsFull}
-use Rattle.fc_text.specs.Line.{lines_of}
 
 -- one more piece
 pub pushed_next : (old mid new front piece : List ℕ) → mid ≡ old ++ front → new ≡ mid ++ piece → new ≡ old ++ (front ++ piece)
@@ -86,12 +85,6 @@ module _ (f : RowLine → List ℕ) where
 
   pub told_all : (whole mid : List ℕ) (lines : List RowLine) → lines ≡ [] → mid ++ flat_map f lines ≡ whole → mid ≡ whole
   told_all whole mid lines none so = left_none whole mid (flat_map f lines) so (ap (flat_map f) none)
-
--- the lines of a text, before the first one was told
-pub told_start : (names : Option ℕ) (rest text : List ℕ) → names ≡ None → rest ≡ text
-    → row_lines_below names (lines_of rest) ≡ row_lines text
-told_start names rest text first from =
-    ap (λ n. row_lines_below n (lines_of rest)) first ∙ ap (λ t. row_lines_below None (lines_of t)) from
 
 -- the columns, before the first one was pushed
 pub columns_start : (old : List ℕ) (lines : List RowLine) (most : ℕ)

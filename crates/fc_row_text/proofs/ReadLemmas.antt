@@ -13,7 +13,10 @@ use Rattle.fc_text.specs.Printed.{entries_text}
 use Rattle.fc_text.specs.Spelling.{SpellsCard, is_column}
 use Rattle.fc_text.proofs.PrintedPieces.{AllAbove, ArePrinted, above-append, entries-above, tokens_of-entries}
 use Rattle.fc_row_text.specs.Laws.{EntriesAreColumns, entries_of, row_entry, some_entry}
-use Rattle.fc_row_text.specs.RowText.{RowLine, are_numbers, cells_named, cells_head, line_of_column, text_in_columns, columns_text, entry_at, entry_text, front_text, has_suit, held_or, home_entry, homes_head, is_letter_alone, is_none, is_row, kind_below, named_or_row, names_below, own_kind, entry_text_at, row_lines_below, row_lines, word_at, words_of}
+use Rattle.fc_row_text.specs.RowText.{RowLine, are_numbers, cells_named, cells_head, line_of_column, text_in_columns, columns_text, entry_at, entry_text, front_text, has_suit, held_or, home_entry, homes_head, is_letter_alone, is_none, is_row, kind_below, named_or_row, names_below, no_places, own_kind, entry_text_at, head_below, row_line_below, row_lines_below, row_lines, word_at, words_of}
+use Rattle.fc_row_text.specs.Places.{places_with}
+use Rattle.fc_row_text.specs.declared.readings.Reading.{Reading}
+use Rattle.fc_row_text.specs.declared.spans.Span.{Span}
 use Rattle.fc_row_text.specs.declared.row_lines.RowLineKind.{RowLineKind}
 use Rattle.fc_row_text.specs.declared.row_lines.RowLineKind.TheVariants.{Blank, Kept, Numbers, Names, Held, Row}
 use Rattle.fc_row_text.proofs.ByteLemmas.{NoEnd, NoEnds, above-lower, entry_at-above, lines-ended, no_end-above, no_ends-lines, take-above, without_return-same, word_at-above}
@@ -29,8 +32,8 @@ printed-append (x ∷ xs) ys p q = (p.0, printed-append xs ys p.1 q)
 
 row-printed : (k : ℕ) (told : RowLine) → ArePrinted (row_entry k told)
 row-printed k told =
-    cond_both (is_row told.kind) (some_entry (entry_at k told.line)) [] ArePrinted
-    (λ _. some-printed (entry_at k told.line) (entry_at-above k told.line)) (λ _. tt)
+    cond_both (is_row told.kind) (some_entry (entry_at k told)) [] ArePrinted
+    (λ _. some-printed (entry_at k told) (entry_at-above k told)) (λ _. tt)
 
 entries-printed : (k : ℕ) (lines : List RowLine) → ArePrinted (entries_of k lines)
 entries-printed k [] = tt
@@ -45,8 +48,8 @@ entry-is entry =
 
 row-is : (k : ℕ) (told : RowLine) → entry_text_at k told ≡ entries_text (row_entry k told)
 row-is k told =
-    elim (is_row told.kind) as (λ t. cond t (entry_text (entry_at k told.line)) [] ≡ entries_text (cond t (some_entry (entry_at k told.line)) []))
-    [ true ↦ entry-is (entry_at k told.line) | false ↦ refl ]
+    elim (is_row told.kind) as (λ t. cond t (entry_text (entry_at k told)) [] ≡ entries_text (cond t (some_entry (entry_at k told)) []))
+    [ true ↦ entry-is (entry_at k told) | false ↦ refl ]
 
 column-is : (k : ℕ) (lines : List RowLine) → flat_map (entry_text_at k) lines ≡ entries_text (entries_of k lines)
 column-is k [] = refl
@@ -208,18 +211,19 @@ front_lines Row line = []
 abbrev told_front : RowLine → List (List ℕ)
 told_front told = front_lines told.kind told.line
 
-front-is : (kind : RowLineKind) (line : List ℕ) → front_text (record { kind = kind; line = line }) ≡ flat_map with_line_end (front_lines kind line)
-front-is Blank line = refl
-front-is Kept line = sym (append-nil (with_line_end line))
-front-is Numbers line = refl
-front-is (Names n) line = refl
-front-is (Held n) line = ap (λ t. with_line_end (homes_head n line) ++ t) (sym (append-nil (with_line_end (cells_head n line))))
-front-is Row line = refl
+front-is : (kind : RowLineKind) (line : List ℕ) (reading : Reading)
+    → front_text (record { kind = kind; line = line; reading = reading }) ≡ flat_map with_line_end (front_lines kind line)
+front-is Blank line reading = refl
+front-is Kept line reading = sym (append-nil (with_line_end line))
+front-is Numbers line reading = refl
+front-is (Names n) line reading = refl
+front-is (Held n) line reading = ap (λ t. with_line_end (homes_head n line) ++ t) (sym (append-nil (with_line_end (cells_head n line))))
+front-is Row line reading = refl
 
 fronts-are : (lines : List RowLine) → flat_map front_text lines ≡ flat_map with_line_end (flat_map told_front lines)
 fronts-are [] = refl
 fronts-are (told ∷ lines) =
-    ap (λ t. t ++ flat_map front_text lines) (front-is told.kind told.line) ∙ ap (λ t. flat_map with_line_end (told_front told) ++ t) (fronts-are lines)
+    ap (λ t. t ++ flat_map front_text lines) (front-is told.kind told.line told.reading) ∙ ap (λ t. flat_map with_line_end (told_front told) ++ t) (fronts-are lines)
     ∙ sym (flat_map-append with_line_end (told_front told) (flat_map told_front lines))
 
 front-each : (kind : RowLineKind) (line : List ℕ) → NoEnd line
@@ -231,12 +235,14 @@ front-each (Names n) line none other = tt
 front-each (Held n) line none other = (homes-front n line, (cells-front n line, tt))
 front-each Row line none other = tt
 
-fronts-each : (names : Option ℕ) (lines : List (List ℕ)) → NoEnds lines → AreFronts (flat_map told_front (row_lines_below names lines))
-fronts-each names [] none = tt
-fronts-each names (line ∷ lines) none =
-    let kind = kind_below names line in
-    fronts-append (front_lines kind line) (flat_map told_front (row_lines_below (names_below names kind) lines))
-    (front-each kind line none.0 (kept_other names line)) (fronts-each (names_below names kind) lines none.1)
+fronts-each : (names : Option ℕ) (head above : List (Option Span)) (lines : List (List ℕ)) → NoEnds lines
+    → AreFronts (flat_map told_front (row_lines_below names head above lines))
+fronts-each names head above [] none = tt
+fronts-each names head above (line ∷ lines) none =
+    let told = row_line_below names head above line in
+    let below = row_lines_below (names_below names told.kind) (head_below told.kind head line) (places_with told.reading.entries above) lines in
+    fronts-append (front_lines told.kind line) (flat_map told_front below) (front-each told.kind line none.0 (kept_other names line))
+    (fronts-each (names_below names told.kind) (head_below told.kind head line) (places_with told.reading.entries above) lines none.1)
 
 -- the column lines of the text in columns
 ends-append : (xs ys : List (List ℕ)) → NoEnds xs → NoEnds ys → NoEnds (xs ++ ys)
@@ -286,7 +292,7 @@ text-read : (text : List ℕ) (k : ℕ) → k < 8 → tokens_of_column (board_li
 unfolding text_in_columns
 text-read text k below =
     tokens-read (row_lines text) (flat_map told_front (row_lines text)) (flat_map front_text (row_lines text)) 8 k
-    (fronts-are (row_lines text)) (fronts-each None (lines_of text) (no_ends-lines text)) below
+    (fronts-are (row_lines text)) (fronts-each None no_places no_places (lines_of text) (no_ends-lines text)) below
 
 -- where the text in columns spells a position, the entries of the rows for a column spell its cards
 pub entries_read : EntriesAreColumns

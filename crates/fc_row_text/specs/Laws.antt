@@ -16,7 +16,7 @@ some_entry entry = cond (is_none entry) [] (entry ∷ [])
 
 -- the entry that a line has for column k, where it is a row and has one
 abbrev pub row_entry : ℕ → RowLine → List (List ℕ)
-row_entry k told = cond (is_row told.kind) (some_entry (entry_at k told.line)) []
+row_entry k told = cond (is_row told.kind) (some_entry (entry_at k told)) []
 
 -- the entries of rows for column k, the deepest first
 abbrev pub entries_of : ℕ → List RowLine → List (List ℕ)

@@ -1,5 +1,5 @@
 -- A board in rows, as a screen shows it, and the text in columns that it stands for.
-use Rattle.std.specs.Prelude.{ℕ, zero, suc, ◌+◌, ◌-◌, ◌*◌, ◌==◌, ◌||◌, ◌&&◌, Bool, true, false, not, cond, List, [], ◌∷◌, ◌++◌, length, take, drop, Option, Some, None, codes, nat_lt, slice_index, slice_index_or}
+use Rattle.std.specs.Prelude.{ℕ, zero, suc, ◌+◌, ◌-◌, ◌*◌, ◌==◌, ◌||◌, ◌&&◌, Bool, true, false, not, cond, List, [], ◌∷◌, ◌++◌, length, take, drop, Option, Some, None, codes, nat_lt, slice_index, slice_index_or, get_or}
 use Rattle.std.specs.Char.{to_ascii_uppercase}
 use Rattle.std.specs.List.{flat_map, range_with_len}
 use Rattle.std.specs.Option.{option_or}
@@ -8,13 +8,12 @@ use Rattle.fc_position.specs.Board.{front_of}
 use Rattle.fc_text.specs.Line.{line_of, lines_of, tokens_between, without_return}
 use Rattle.fc_text.specs.Spelling.{is_column}
 use Rattle.fc_row_text.specs.declared.faults.RowTextFault.{RowTextFault}
-use Rattle.fc_row_text.specs.declared.faults.RowTextFault.TheVariants.{TooLong, BadHead, LongRow, ShortRow}
+use Rattle.fc_row_text.specs.declared.faults.RowTextFault.TheVariants.{TooLong, BadHead, OpenRow, LongRow, ShortRow}
+use Rattle.fc_row_text.specs.declared.readings.Reading.{Reading}
 use Rattle.fc_row_text.specs.declared.row_lines.RowLineKind.{RowLineKind}
 use Rattle.fc_row_text.specs.declared.row_lines.RowLineKind.TheVariants.{Blank, Kept, Numbers, Names, Held, Row}
-
--- what parts entries: spaces, tabs and all other control bytes
-abbrev pub is_row_gap : ℕ → Bool
-is_row_gap b = nat_lt b 33
+use Rattle.fc_row_text.specs.declared.spans.Span.{Span}
+use Rattle.fc_row_text.specs.Places.{are_apart, for_columns, is_row_gap, places_with, read_so, reading_of, words_from_first, words_in}
 
 -- the words of a text: what stands between gaps
 abbrev pub words_of : List ℕ → List (List ℕ)
@@ -74,55 +73,72 @@ names_below names (Names n) = Some n
 names_below names (Held n) = None
 names_below names Row = None
 
--- a line and what it tells
+-- the line is a row
+abbrev pub is_row : RowLineKind → Bool
+is_row Blank = false
+is_row Kept = false
+is_row Numbers = false
+is_row (Names n) = false
+is_row (Held n) = false
+is_row Row = true
+
+-- the line is the numbers of the columns
+abbrev pub is_head : RowLineKind → Bool
+is_head Blank = false
+is_head Kept = false
+is_head Numbers = true
+is_head (Names n) = false
+is_head (Held n) = false
+is_head Row = false
+
+-- a line, what it tells, and how it is read where it is a row
 pub record RowLine : Type 0 where
   pub kind : RowLineKind
   pub line : List ℕ
+  pub reading : Reading
 
--- the lines below these names, if names stand above them, and what they tell
-abbrev pub row_lines_below : Option ℕ → List (List ℕ) → List RowLine
-row_lines_below names [] = []
-row_lines_below names (line ∷ lines) =
-    record { kind = kind_below names line; line = line } ∷ row_lines_below (names_below names (kind_below names line)) lines
+-- nothing stands in a column
+abbrev pub no_places : List (Option Span)
+no_places = for_columns (λ k. None)
+
+-- how a line is read below these places of the columns' numbers and of entries
+abbrev pub line_reading : RowLineKind → List (Option Span) → List (Option Span) → List ℕ → Reading
+line_reading kind head above line = cond (is_row kind) (reading_of head above (words_in line)) (read_so no_places true)
+
+-- where the numbers of the columns stand for the lines below: they are apart, else they say nothing
+abbrev pub head_below : RowLineKind → List (Option Span) → List ℕ → List (Option Span)
+head_below kind head line = cond (is_head kind && are_apart (words_in line)) (words_from_first (words_in line)) head
+
+-- a line below these names, numbers and entries, if they stand above it
+abbrev pub row_line_below : Option ℕ → List (Option Span) → List (Option Span) → List ℕ → RowLine
+row_line_below names head above line = record {
+  kind = kind_below names line;
+  line = line;
+  reading = line_reading (kind_below names line) head above line;
+}
+
+-- the lines below these names, numbers and entries, and what they tell
+abbrev pub row_lines_below : Option ℕ → List (Option Span) → List (Option Span) → List (List ℕ) → List RowLine
+row_lines_below names head above [] = []
+row_lines_below names head above (line ∷ lines) =
+    let told = row_line_below names head above line in
+    told ∷ row_lines_below (names_below names told.kind) (head_below told.kind head line) (places_with told.reading.entries above) lines
 
 -- a text as its lines and what they tell
 abbrev pub row_lines : List ℕ → List RowLine
-row_lines text = row_lines_below None (lines_of text)
+row_lines text = row_lines_below None no_places no_places (lines_of text)
 
 -- the k-th word of a text, from 0; past the last one nothing
 abbrev pub word_at : ℕ → List ℕ → List ℕ
 word_at k text = slice_index_or (words_of text) k []
 
--- spaces alone
-abbrev pub are_spaces : List ℕ → Bool
-are_spaces [] = true
-are_spaces (b ∷ bytes) = (b == 32) && are_spaces bytes
+-- the entry of a row for column k
+abbrev pub entry_of : Option Span → List ℕ → List ℕ
+entry_of None line = []
+entry_of (Some word) line = word_at (word.number - 1) line
 
--- a space and two bytes that are no gaps
-abbrev pub is_entry : List ℕ → Bool
-is_entry (a ∷ b ∷ c ∷ []) = (a == 32) && (not (is_row_gap b) && not (is_row_gap c))
-is_entry place = false
-
--- a place of a row that is drawn has an entry or spaces alone
-abbrev pub is_place : List ℕ → Bool
-is_place place = is_entry place || are_spaces place
-
--- a line has so many places of three bytes, and spaces behind them
-abbrev pub has_places : ℕ → List ℕ → Bool
-has_places zero line = are_spaces line
-has_places (suc n) line = is_place (take 3 line) && has_places n (drop 3 line)
-
--- a row as a drawing has it: eight places, one for each column
-unfoldable pub is_drawn : List ℕ → Bool
-is_drawn line = has_places 8 line
-
--- the entry of a row for column k: what stands in the column's place where the row is drawn, else the k-th one
-abbrev pub entry_at : ℕ → List ℕ → List ℕ
-entry_at k line = cond (is_drawn line) (word_at 0 (take 3 (drop (3 * k) line))) (word_at k line)
-
--- how many entries a row has
-abbrev pub entry_count : List ℕ → ℕ
-entry_count line = cond (is_drawn line) 8 (length (words_of line))
+abbrev pub entry_at : ℕ → RowLine → List ℕ
+entry_at k told = entry_of (get_or told.reading.entries k None) told.line
 
 -- an entry that stands for no card: none at all, `-`, `.` or `--`
 abbrev pub is_none : List ℕ → Bool
@@ -135,18 +151,9 @@ is_none (a ∷ b ∷ c ∷ bytes) = false
 abbrev pub entry_text : List ℕ → List ℕ
 entry_text entry = cond (is_none entry) [] (32 ∷ entry)
 
--- the line is a row
-abbrev pub is_row : RowLineKind → Bool
-is_row Blank = false
-is_row Kept = false
-is_row Numbers = false
-is_row (Names n) = false
-is_row (Held n) = false
-is_row Row = true
-
 -- what a line says of column k
 abbrev pub entry_text_at : ℕ → RowLine → List ℕ
-entry_text_at k told = cond (is_row told.kind) (entry_text (entry_at k told.line)) []
+entry_text_at k told = cond (is_row told.kind) (entry_text (entry_at k told)) []
 
 -- column k: a colon, and its entries, the deepest first
 abbrev pub line_of_column : ℕ → List RowLine → List ℕ
@@ -195,50 +202,70 @@ columns_text lines count = flat_map (λ k. with_line_end (line_of_column k lines
 unfoldable pub text_in_columns : List ℕ → List ℕ
 text_in_columns text = flat_map front_text (row_lines text) ++ columns_text (row_lines text) 8
 
--- the row has a card in one of these columns
-abbrev pub has_card_in : List ℕ → List ℕ → Bool
-has_card_in line [] = false
-has_card_in line (k ∷ columns) = not (is_none (entry_at k line)) || has_card_in line columns
+-- the rows that leave a column out are told by the number of the first one, for each column
+abbrev pub LeftOut : Type 0
+LeftOut = List (Option ℕ)
 
--- the row has a card past its first n entries
-abbrev pub has_card_past : ℕ → List ℕ → Bool
-has_card_past n line = has_card_in line (range_with_len n (8 - n))
+-- no row leaves a column out
+abbrev pub none_left : LeftOut
+none_left = for_columns (λ k. None)
 
--- the row has more entries than there are columns
+-- a row with this number leaves a column without a word out
+abbrev pub left_by : ℕ → Option Span → Option ℕ
+left_by number None = Some number
+left_by number (Some word) = None
+
+-- the first rows that leave columns out, below a row with this number
+abbrev pub left_with : LeftOut → ℕ → List (Option Span) → LeftOut
+left_with left number entries = for_columns (λ k. option_or (get_or left k None) (left_by number (get_or entries k None)))
+
+abbrev pub left_below : LeftOut → ℕ → RowLine → LeftOut
+left_below left number told = cond (is_row told.kind) (left_with left number told.reading.entries) left
+
+-- the first row above that leaves a column out, where a row has a card in it
+abbrev pub left_at : LeftOut → RowLine → ℕ → Option ℕ
+left_at left told k = cond (is_none (entry_at k told)) None (get_or left k None)
+
+-- that of the first of these columns for which there is one
+abbrev pub left_above : LeftOut → RowLine → List ℕ → Option ℕ
+left_above left told [] = None
+left_above left told (k ∷ columns) = option_or (left_at left told k) (left_above left told columns)
+
+-- the row has more words than there are columns
 abbrev pub long_fault : ℕ → List ℕ → Option RowTextFault
-long_fault number line = cond (nat_lt 8 (entry_count line)) (Some (LongRow number)) None
+long_fault number line = cond (nat_lt 8 (length (words_of line))) (Some (LongRow number)) None
 
--- what is wrong with a row, where the shortest one above it has this number and so many entries, if one is short: that one,
--- where this row has a card past its end, or its own length
-abbrev pub row_fault : Option (ℕ × ℕ) → ℕ → List ℕ → Option RowTextFault
-row_fault None number line = long_fault number line
-row_fault (Some above) number line = cond (has_card_past above.1 line) (Some (ShortRow above.0)) (long_fault number line)
+-- that row is short
+abbrev pub short_fault : Option ℕ → Option RowTextFault
+short_fault None = None
+short_fault (Some above) = Some (ShortRow above)
 
--- what is wrong with a line with this number, below such a row or none
-abbrev pub fault_of : Option (ℕ × ℕ) → ℕ → RowLine → Option RowTextFault
-fault_of short number told = elim told.kind as (λ _. Option RowTextFault) [
+-- a gap leaves open which columns a row's entries are those of
+abbrev pub gap_fault : ℕ → Option ℕ → Option RowTextFault
+gap_fault number None = None
+gap_fault number (Some entry) = Some (OpenRow number entry)
+
+-- what is wrong with a row: a gap, else a row above that leaves out a column where it has a card, else its length
+abbrev pub row_fault : LeftOut → ℕ → RowLine → Option RowTextFault
+row_fault left number told = option_or (gap_fault number told.reading.gap)
+    (option_or (short_fault (left_above left told (range_with_len 0 8))) (long_fault number told.line))
+
+-- what is wrong with a line with this number, below rows that leave columns out
+abbrev pub fault_of : LeftOut → ℕ → RowLine → Option RowTextFault
+fault_of left number told = elim told.kind as (λ _. Option RowTextFault) [
   | Blank ↦ None
   | Kept ↦ None
   | Numbers ↦ None
   | Names n ↦ None
   | Held n ↦ cond (length (words_of told.line) == n + 4) None (Some (BadHead number))
-  | Row ↦ row_fault short number told.line
+  | Row ↦ row_fault left number told
 ]
 
--- the shortest row so far with fewer than eight entries, the first of equals, below a row with so many entries
-abbrev pub short_after : Option (ℕ × ℕ) → ℕ → ℕ → Option (ℕ × ℕ)
-short_after None number count = cond (nat_lt count 8) (Some (number, count)) None
-short_after (Some above) number count = cond (nat_lt count above.1) (Some (number, count)) (Some above)
-
--- the one that stands above the next line, if there is one
-abbrev pub short_below : Option (ℕ × ℕ) → ℕ → RowLine → Option (ℕ × ℕ)
-short_below short number told = cond (is_row told.kind) (short_after short number (entry_count told.line)) short
-
 -- the first fault of lines, the first of which has this number
-abbrev pub first_fault : Option (ℕ × ℕ) → ℕ → List RowLine → Option RowTextFault
-first_fault short number [] = None
-first_fault short number (told ∷ lines) =
-    option_or (fault_of short number told) (first_fault (short_below short number told) (number + 1) lines)
+abbrev pub first_fault : LeftOut → ℕ → List RowLine → Option RowTextFault
+first_fault left number [] = None
+first_fault left number (told ∷ lines) =
+    option_or (fault_of left number told) (first_fault (left_below left number told) (number + 1) lines)
 
 -- texts have at most so many bytes
 abbrev pub most_bytes : ℕ
@@ -251,4 +278,4 @@ length_fault text = cond (nat_lt most_bytes (length text)) (Some TooLong) None
 -- what is wrong with a text in rows: it is too long, else the first fault of its lines, else the text in columns is too long
 abbrev pub row_text_fault : List ℕ → Option RowTextFault
 row_text_fault text = option_or (length_fault text)
-    (option_or (first_fault None 1 (row_lines text)) (length_fault (text_in_columns text)))
+    (option_or (first_fault none_left 1 (row_lines text)) (length_fault (text_in_columns text)))

@@ -2,36 +2,37 @@ ghost use Rattle.std.specs.Prelude.{◌≡◌, ◌++◌, ◌≤◌, length, OnOk
 ghost use Rattle.std.specs.List.{flat_map};
 ghost use Rattle.fc_cards.specs.Texts.{with_line_end};
 ghost use Rattle.fc_row_text.specs.RowText.{line_of_column, columns_text, front_text, entry_text_at, row_lines};
-ghost use Rattle.fc_row_text.specs.inner.RowLine.{IsFull, row_line_with};
+ghost use Rattle.fc_row_text.specs.inner.RowLine.{IsFull};
+ghost use Rattle.fc_row_text.specs.Lines.{row_line_of};
 
 use crate::column_texts::{Bytes, MOST_BYTES, push, push_word};
 use crate::faults::RowTextFault;
 use crate::heads::push_head;
 use crate::row_entries::{entry_at, is_none};
-use crate::row_lines::{RowLineKind, RowLines};
+use crate::row_lines::{LineTold, RowLineKind, RowLines};
 
 /// Pushes what stands before the columns: the lines that are kept, and what cells and foundations hold.
 pub(crate) fn push_front(bytes: &mut Bytes, text: &[u8]) -> Result<(), RowTextFault>
     ensures pushed { OnOk result (bytes.new.items ≡ bytes.old.items ++ flat_map front_text (row_lines text.now)) }
     ensures full { IfErr result (IsFull bytes.old.items (flat_map front_text (row_lines text.now))) }
 {
-    for (kind, line) in RowLines::new(text) {
-        push_row_line(bytes, kind, line)?;
+    for told in RowLines::new(text) {
+        push_row_line(bytes, &told)?;
     }
     Ok(())
 }
 
 // Pushes what a line tells that stands before the columns.
-fn push_row_line(bytes: &mut Bytes, kind: RowLineKind, line: &[u8]) -> Result<(), RowTextFault>
-    ensures pushed { OnOk result (bytes.new.items ≡ bytes.old.items ++ front_text (row_line_with kind line.now)) }
-    ensures full { IfErr result (IsFull bytes.old.items (front_text (row_line_with kind line.now))) }
+fn push_row_line(bytes: &mut Bytes, told: &LineTold) -> Result<(), RowTextFault>
+    ensures pushed { OnOk result (bytes.new.items ≡ bytes.old.items ++ front_text (row_line_of told.now)) }
+    ensures full { IfErr result (IsFull bytes.old.items (front_text (row_line_of told.now))) }
 {
-    match kind {
+    match told.kind {
         RowLineKind::Kept => {
-            push(bytes, line)?;
+            push(bytes, told.line)?;
             push(bytes, b"\n")
         }
-        RowLineKind::Held(cells) => push_head(bytes, cells, line),
+        RowLineKind::Held(cells) => push_head(bytes, cells, told.line),
         _ => Ok(()),
     }
 }
@@ -56,27 +57,22 @@ fn push_column(bytes: &mut Bytes, text: &[u8], column: usize) -> Result<(), RowT
     ensures full { IfErr result (IsFull bytes.old.items (with_line_end (line_of_column column (row_lines text.now)))) }
 {
     push(bytes, b":")?;
-    for (kind, line) in RowLines::new(text) {
-        push_entry(bytes, kind, line, column)?;
+    for told in RowLines::new(text) {
+        push_entry(bytes, &told, column)?;
     }
     push(bytes, b"\n")
 }
 
 // Pushes a blank and the entry of a row for this column, from 0, where the line is a row and has one.
-fn push_entry(
-    bytes: &mut Bytes,
-    kind: RowLineKind,
-    line: &[u8],
-    column: usize,
-) -> Result<(), RowTextFault>
+fn push_entry(bytes: &mut Bytes, told: &LineTold, column: usize) -> Result<(), RowTextFault>
     requires column { column ≤ 7 }
-    ensures pushed { OnOk result (bytes.new.items ≡ bytes.old.items ++ entry_text_at column (row_line_with kind line.now)) }
-    ensures full { IfErr result (IsFull bytes.old.items (entry_text_at column (row_line_with kind line.now))) }
+    ensures pushed { OnOk result (bytes.new.items ≡ bytes.old.items ++ entry_text_at column (row_line_of told.now)) }
+    ensures full { IfErr result (IsFull bytes.old.items (entry_text_at column (row_line_of told.now))) }
 {
-    if kind != RowLineKind::Row {
+    if told.kind != RowLineKind::Row {
         return Ok(());
     }
-    let entry = entry_at(line, column);
+    let entry = entry_at(told, column);
     if is_none(entry) {
         return Ok(());
     }

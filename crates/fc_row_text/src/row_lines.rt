@@ -1,16 +1,18 @@
-ghost use Rattle.std.specs.Prelude.{◌≡◌, ◌<◌, ◌≤◌, ◌∷◌, length, IfSome};
+ghost use Rattle.std.specs.Prelude.{◌≡◌, ◌<◌, ◌≤◌, ◌∷◌, length};
 ghost use Rattle.std.specs.List.{position_or_len};
 ghost use Rattle.std.specs.Iterator.{YieldsFirstBy, item_count};
 ghost use Rattle.fc_text.specs.Line.{is_line_end, lines_of, parts_of, without_return};
-ghost use Rattle.fc_row_text.specs.RowText.{cells_named, kind_below, names_below, own_kind, row_lines_below, words_of};
-ghost use Rattle.fc_row_text.specs.inner.RowLine.{row_line_of};
+ghost use Rattle.fc_row_text.specs.RowText.{cells_named, head_below, kind_below, line_reading, names_below, own_kind, row_line_below, row_lines, words_of};
+ghost use Rattle.fc_row_text.specs.Lines.{lines_left, row_line_of};
 
+use crate::readings::{Places, Reading, are_apart, places_with, reading_of, words_from_first};
 use crate::row_words::{are_letters, word_count};
+use crate::spans::words_in;
 use fc_text::is_column_line;
 
 /// What a line of a text in rows tells.
 #[derive(Clone, Copy, Debug, PartialEq, Eq)]
-pub(crate) enum RowLineKind {
+pub enum RowLineKind {
     /// Nothing.
     Blank,
     /// What foundations or cells hold, as the reader reads it.
@@ -25,42 +27,102 @@ pub(crate) enum RowLineKind {
     Row,
 }
 
+/// A line of a text in rows, without what ends it.
+#[derive(Debug, Drop)]
+pub struct LineTold<'a> {
+    /// What it tells.
+    pub kind: RowLineKind,
+    /// Its bytes.
+    pub line: &'a [u8],
+    /// How it is read, where it is a row.
+    pub reading: Reading,
+}
+
 /// The lines of a text, without what ends them, each with what it tells.
 #[derive(Debug, Drop)]
-pub(crate) struct RowLines<'a> {
+pub struct RowLines<'a> {
     rest: &'a [u8],
     names: Option<u8>,
+    // Where the numbers of the columns stand.
+    head: Places,
+    // Where the entries stand that are nearest above.
+    above: Places,
 }
 
 impl<'a> RowLines<'a> {
     /// The lines of this text.
     pub fn new(text: &'a [u8]) -> RowLines<'a>
-        ensures rest { result.rest.now ≡ text.now }
-        ensures names { result.names ≡ None }
+        ensures lines { lines_left result ≡ row_lines text.now }
     {
         RowLines {
             rest: text,
             names: None,
+            head: [None; 8],
+            above: [None; 8],
         }
     }
 }
 
 impl<'a> Iterator for RowLines<'a> {
-    type Item = (RowLineKind, &'a [u8]);
+    type Item = LineTold<'a>;
 
-    ghost next_gives = { YieldsFirstBy row_line_of (λ s. row_lines_below s.names (lines_of s.rest.now)) };
+    ghost next_gives = { YieldsFirstBy row_line_of lines_left };
 
-    ghost remaining = { item_count (λ s. row_lines_below s.names (lines_of s.rest.now)) };
+    ghost remaining = { item_count lines_left };
 
-    fn next(&mut self) -> Option<(RowLineKind, &'a [u8])> {
+    fn next(&mut self) -> Option<LineTold<'a>> {
         if self.rest.is_empty() {
             return None;
         }
         let (line, rest) = split_line(self.rest);
-        let kind = kind_below(self.names, line);
+        let told = told_below(self.names, &self.head, &self.above, line);
         self.rest = rest;
-        self.names = names_below(self.names, kind);
-        Some((kind, line))
+        self.names = names_below(self.names, told.kind);
+        self.head = head_below(told.kind, self.head, line);
+        self.above = places_with(&told.reading.entries, &self.above);
+        Some(told)
+    }
+}
+
+// A line below these names, numbers and entries.
+fn told_below<'a>(names: Option<u8>, head: &Places, above: &Places, line: &'a [u8]) -> LineTold<'a>
+    ensures { row_line_of result ≡ row_line_below names head.now above.now line.now }
+{
+    let kind = kind_below(names, line);
+    LineTold {
+        kind,
+        line,
+        reading: line_reading(kind, head, above, line),
+    }
+}
+
+// How a line is read below these numbers and entries.
+fn line_reading(kind: RowLineKind, head: &Places, above: &Places, line: &[u8]) -> Reading
+    ensures { result ≡ line_reading kind head.now above.now line.now }
+{
+    if kind == RowLineKind::Row {
+        reading_of(head, above, words_in(line).as_slice())
+    } else {
+        Reading {
+            entries: [None; 8],
+            gap: None,
+            is_sure: true,
+        }
+    }
+}
+
+// Where the numbers of the columns stand for the lines below this one.
+fn head_below(kind: RowLineKind, head: Places, line: &[u8]) -> Places
+    ensures { result ≡ head_below kind head line.now }
+{
+    if kind != RowLineKind::Numbers {
+        return head;
+    }
+    let words = words_in(line);
+    if are_apart(words.as_slice()) {
+        words_from_first(words.as_slice())
+    } else {
+        head
     }
 }
 

@@ -1,5 +1,6 @@
 ghost use Rattle.std.specs.Prelude.{◌≡◌, ◌≤◌, length};
-ghost use Rattle.fc_row_text.specs.RowText.{are_letters, is_row_gap, is_letter_alone, word_at, words_of};
+ghost use Rattle.fc_row_text.specs.RowText.{are_letters, is_letter_alone, word_at, words_of};
+ghost use Rattle.fc_row_text.specs.Places.{is_row_gap};
 
 use fc_text::{Gaps, Tokens};
 

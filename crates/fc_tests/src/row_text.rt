@@ -11,7 +11,7 @@ fn check_columns(rt: &impl Abort, rows: &[u8], columns: &[u8]) {
 }
 
 // Texts in rows, and those in columns for which they stand.
-static TYPED: [(&[u8], &[u8]); 14] = [
+static TYPED: [(&[u8], &[u8]); 15] = [
     (b"", b":\n:\n:\n:\n:\n:\n:\n:\n"),
     // The last row may be short.
     (b"KC", b": KC\n:\n:\n:\n:\n:\n:\n:\n"),
@@ -21,7 +21,7 @@ static TYPED: [(&[u8], &[u8]); 14] = [
     ),
     // Entries that stand for no card, and entries that are none.
     (
-        b"AC -- 3C - 5C . * 10c\n\tx\t--\tKD\n",
+        b"AC -- 3C - 5C . * 10c\nx  -- KD\n",
         b": AC x\n:\n: 3C KD\n:\n: 5C\n:\n: *\n: 10c\n",
     ),
     // Numbers of the columns.
@@ -29,10 +29,15 @@ static TYPED: [(&[u8], &[u8]); 14] = [
         b" 1 2 3 4 5 6 7 8\nAC 2C 3C 4C 5C 6C 7C 8C\n1 2 3 4 5 6 7 8",
         b": AC\n: 2C\n: 3C\n: 4C\n: 5C\n: 6C\n: 7C\n: 8C\n",
     ),
-    // A row that is drawn is read by its places.
+    // Fewer entries are read under the numbers of the columns,
     (
-        b"    2C    4C    6C\n AC          5C       8C        \n",
-        b": AC\n: 2C\n:\n: 4C\n: 5C\n: 6C\n:\n: 8C\n",
+        b"  1  2  3  4  5  6  7  8\n AC    3C       6C    8C\n 2C             7C\n",
+        b": AC 2C\n:\n: 3C\n:\n:\n: 6C 7C\n:\n: 8C\n",
+    ),
+    // else under the entries above, tabs going to the next multiple of eight.
+    (
+        b"AC\t2C\t3C\t4C\t5C\t6C\t7C\t8C\n\t9C\t\tTC\n        JC\n",
+        b": AC\n: 2C 9C JC\n: 3C\n: 4C TC\n: 5C\n: 6C\n: 7C\n: 8C\n",
     ),
     (b" --  2C 3C", b":\n: 2C\n: 3C\n:\n:\n:\n:\n:\n"),
     (b"\t2C\t3C", b": 2C\n: 3C\n:\n:\n:\n:\n:\n:\n"),
@@ -67,6 +72,25 @@ static TYPED: [(&[u8], &[u8]); 14] = [
 fn rows_are_put_into_columns(rt: HostRuntime) {
     for (rows, columns) in TYPED.as_slice() {
         check_columns(&rt, *rows, *columns);
+    }
+}
+
+// What is wrong with texts in rows.
+static FAULTY: [(&[u8], RowTextFault); 3] = [
+    // A gap before the first entry, and two tabs.
+    (b"AC 2C\n    3C  4C\n", RowTextFault::OpenRow(2, 1)),
+    (b"AC\t\t3C\n", RowTextFault::OpenRow(1, 2)),
+    // A column that the second row leaves out has a card in the third.
+    (
+        b"AC 2C 3C 4C 5C 6C 7C 8C\n9C    JC\n   QC\n",
+        RowTextFault::ShortRow(2),
+    ),
+];
+
+#[test]
+fn faults_of_rows_are_told(rt: HostRuntime) {
+    for (rows, fault) in FAULTY.as_slice() {
+        must(&rt, columns_of_row_text(*rows).err() == Some(*fault));
     }
 }
 

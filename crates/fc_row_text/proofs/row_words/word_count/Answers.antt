@@ -1,6 +1,7 @@
 use Rattle.std.proofs.Common.{length, ◌∙◌, ap, arith}
 use Rattle.fc_text.proofs.PartLemmas.{length-tokens_between}
-use Rattle.fc_row_text.specs.RowText.{words_of, is_row_gap}
+use Rattle.fc_row_text.specs.RowText.{words_of}
+use Rattle.fc_row_text.specs.Places.{is_row_gap}
 use Rattle.fc_row_text.proofs.row_words.word_count.Goals as goal
 
 pub loop-init : goal.loop-init
