@@ -2,6 +2,7 @@ ghost use Rattle.std.specs.Prelude.{◌≡◌, ◌+◌, ◌<◌, ◌≤◌, ℕ,
 ghost use Rattle.std.specs.Option.{option_copied};
 ghost use Rattle.fc_batch.specs.Batch.{search_at, NumbersWereGiven, Stays, OthersStay, TurnFor, TurnsFor, count_if_running, work_left};
 
+use crate::held::HeldSearch;
 use fc_best_first::{SearchFault, Step};
 use fc_frontier::Frontier;
 use fc_moves::Game;
@@ -13,7 +14,8 @@ use std::marker::Model;
 /// Searches that take turns, each under a number that is never given twice.
 #[derive(Drop)]
 pub struct Batch<F: Frontier + Drop, G: Game + Drop> {
-    searches: IndexMap<usize, Search<F, G>>,
+    alloc: Global,
+    searches: IndexMap<usize, HeldSearch<F, G>>,
     added: usize,
 }
 
@@ -34,6 +36,7 @@ impl<F: Frontier + Drop, G: Game + Drop> Batch<F, G> {
         ensures added { result.added ≡ 0 }
     {
         Batch {
+            alloc,
             searches: IndexMap::new(alloc),
             added: 0,
         }
@@ -51,16 +54,31 @@ impl<F: Frontier + Drop, G: Game + Drop> Batch<F, G> {
         ensures next { OnOk result (self.new.added ≡ self.old.added + 1) }
         ensures back { IfErr result (λ handed. (handed ≡ search) × Stays self.old self.new) }
     {
+        match HeldSearch::new(self.alloc, search) {
+            Ok(held) => self.hold(held),
+            Err(handed) => Err(handed),
+        }
+    }
+
+    // Adds a search that is on the heap under the next number.
+    fn hold(&mut self, held: HeldSearch<F, G>) -> Result<usize, Search<F, G>>
+        ensures number { IfOk result (λ i. i ≡ self.old.added) }
+        ensures free { IfOk result (λ i. search_at self.old i ≡ None) }
+        ensures there { IfOk result (λ i. search_at self.new i ≡ Some held) }
+        ensures others { IfOk result (λ i. OthersStay i self.old self.new) }
+        ensures next { OnOk result (self.new.added ≡ self.old.added + 1) }
+        ensures back { IfErr result (λ handed. (handed ≡ held) × Stays self.old self.new) }
+    {
         let number = self.added;
         if number == usize::MAX {
-            return Err(search);
+            return Err(held.into_search());
         }
-        match self.searches.insert(number, search) {
+        match self.searches.insert(number, held) {
             Ok(_) => {
                 self.added = number + 1;
                 Ok(number)
             }
-            Err(refused) => Err(refused.value.1),
+            Err(refused) => Err(refused.value.1.into_search()),
         }
     }
 
@@ -99,7 +117,8 @@ impl<F: Frontier + Drop, G: Game + Drop> Batch<F, G> {
         ensures others { OthersStay i self.old self.new }
         ensures added { self.new.added ≡ self.old.added }
     {
-        self.searches.swap_remove(&i)
+        let held = self.searches.swap_remove(&i)?;
+        Some(held.into_search())
     }
 
     /// The search with this number; `None` where there is none.
@@ -107,7 +126,8 @@ impl<F: Frontier + Drop, G: Game + Drop> Batch<F, G> {
         ensures value { option_copied result ≡ search_at self.now i }
         ensures given { NumbersWereGiven self.now }
     {
-        self.searches.get(&i)
+        let held = self.searches.get(&i)?;
+        Some(held.search())
     }
 }
 

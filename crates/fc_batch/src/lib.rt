@@ -4,4 +4,5 @@
 pub use batches::Batch;
 
 mod batches;
+mod held;
 pub mod laws;

@@ -1,7 +1,7 @@
 use Rattle.std.proofs.Common.{rules, ◌≡◌, ◌∙◌, Some, None, ap, subst}
 use Rattle.fc_batch.specs.Batch.{Batch, search_at}
 use Rattle.fc_batch.proofs.BatchLemmas.{found_looked, given_added, none_next, others_looked}
-use Rattle.fc_batch.proofs.batches.Batch.add.Goals as goal
+use Rattle.fc_batch.proofs.batches.Batch.hold.Goals as goal
 
 pub invariant_of-self : goal.invariant_of-self
 invariant_of-self g c =
