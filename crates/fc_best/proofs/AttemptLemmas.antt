@@ -12,7 +12,7 @@ use Rattle.fc_best_first.specs.Search.{reply_of}
 use Rattle.fc_bound.specs.declared.kinds.BoundKind.{BoundKind}
 use Rattle.fc_bound.specs.declared.kinds.BoundKind.TheVariants.{Plain}
 use Rattle.fc_answers.specs.Answer.{IsBackedWhole}
-use Rattle.fc_best_first.specs.Limits.{Ratio}
+use Rattle.fc_best_first.specs.Limits.{IsGreatBudget, IsWeight, Ratio}
 use Rattle.fc_moves.specs.GameRules.{GameRules}
 use Rattle.fc_methods.specs.Method.{QuestionData}
 use Rattle.fc_search.specs.Need.{NeedsMore}
@@ -21,7 +21,7 @@ use Rattle.fc_search.specs.Search.{State, HasRun}
 use Rattle.fc_search.specs.Shown.{BacksShown, HasFound, HasFoundBy, HasShown, HasShownBy}
 use Rattle.fc_best.specs.declared.attempts.Attempt.{Attempt}
 use Rattle.fc_best.specs.declared.attempts.Shown.{Shown}
-use Rattle.fc_best.specs.inner.Attempt.{IsAttempt, IsFoundIn, IsGivenUp, IsGoodList, IsShown, IsShownAt, IsShownIn, IsTableOf, Raises, ShowsNone}
+use Rattle.fc_best.specs.inner.Attempt.{HasNoTable, IsAttempt, IsFoundIn, IsGivenUp, IsGoodList, IsInRange, IsShown, IsShownAt, IsShownIn, IsTableOf, Raises, ShowsNone}
 use Rattle.fc_best.specs.inner.Standing.{look_with, loss_by, loss_with, under, with_share}
 
 -- what a search found is a good list
@@ -99,15 +99,17 @@ pub attempted : (q : QuestionData) (b : Board) (limit : Option ℕ) (s : State) 
     → IfSome given_up (λ told. (y : List ℕ) × (number : ℕ) × (s.status ≡ ends.GaveUp y number))
     → IfNone given_up ((y : List ℕ) (number : ℕ) → s.status ≡ ends.GaveUp y number → ⊥)
     → stored ≡ length s.store.stored → stored ≤ s.problem.method.strategy.budget
-    → IsAttempt q q.method.bound b limit
+    → IsInRange q → IsAttempt q q.method.bound b limit
     (record { list = list; shown = shown; stored = stored; given_up = given_up; open_share = ajar })
-attempted q b limit s list shown stored given_up ajar same ran done found told lost earned gave still size most = record {
+attempted q b limit s list shown stored given_up ajar same ran done found told lost earned gave still size most range = record {
   ended = s;
   asked = record {
     game = ap (λ x. x.game) same;
     start = ap (λ x. x.start) same;
     rule = ap (λ x. x.method.rule) same;
     bound = inl (ap (λ x. x.method.bound) same);
+    weight = subst IsWeight (sym (ap (λ x. x.method.strategy.weight) same)) range.weight;
+    budget = subst IsGreatBudget (sym (ap (λ x. x.method.strategy.budget) same)) range.budget;
     over = record { ran = subst (λ x. HasRun x s.store s.status) (sym same) ran; done = done };
   };
   by_kind = ap (λ x. x.method.bound) same;
@@ -186,7 +188,7 @@ pub looked_attempt : (q : QuestionData) (b : Board) (weight : Ratio) (share : �
     (record { list = one.list; shown = shown; stored = one.stored; given_up = one.given_up; open_share = one.open_share })
 looked_attempt q b weight share kind one shown same left is = record {
   ended = is.ended;
-  asked = record { game = is.asked.game; start = is.asked.start; rule = is.asked.rule; bound = inr is.by_kind; over = is.asked.over };
+  asked = record { game = is.asked.game; start = is.asked.start; rule = is.asked.rule; bound = inr is.by_kind; weight = is.asked.weight; budget = is.asked.budget; over = is.asked.over };
   by_kind = is.by_kind;
   limited = is.limited;
   list = is.list;
@@ -207,3 +209,13 @@ tabled_with kind None None some = absurd (cc)
 pub lost_tabled : (kind : BoundKind) (shown : Option Shown) → IfSome shown (λ end. IsSome end.table) → IfSome (loss_by kind shown) (λ end. IsSome end.table)
 lost_tabled kind None some = tt
 lost_tabled kind (Some end) some = tabled_with kind end.floor end.table some
+
+-- and without one where it had none
+bare_with : (kind : BoundKind) (floor : Option ℕ) (table : Option Listing) → table ≡ None → HasNoTable (loss_with kind floor table)
+bare_with kind (Some floor) table none = tt
+bare_with kind None (Some table) none = absurd (cc)
+bare_with kind None None none = refl
+
+pub lost_bare : (kind : BoundKind) (shown : Option Shown) → HasNoTable shown → HasNoTable (loss_by kind shown)
+lost_bare kind None none = tt
+lost_bare kind (Some end) none = bare_with kind end.floor end.table none

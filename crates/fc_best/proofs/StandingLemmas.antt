@@ -1,6 +1,6 @@
 -- What the searches so far have found and shown, after one more.
 use Rattle.std.proofs.Common.{zero, suc, ⊎_elim, ◌≡◌, ◌∙◌, ◌⊎◌, inl, inr, ℕ, ◌-◌, ◌≤◌, Option, Some, None, List, ◌∷◌, length, refl, sym, subst, ap, arith, IsTrue}
-use Rattle.std.specs.Prelude.{IfSome, IsSome, All, Contains, max}
+use Rattle.std.specs.Prelude.{IfSome, IsSome, All, Contains, false, max}
 use Rattle.std.proofs.lemmas.List.Elements.{All-nil, All-cons}
 use Rattle.std.proofs.lemmas.List.Sums.{sum_by-cons}
 use Rattle.fc_position.specs.Board.{Board}
@@ -23,7 +23,7 @@ use Rattle.fc_best.specs.declared.standings.Standing.{Standing}
 use Rattle.fc_best.specs.Best.{HasGivenUp, HaveGivenUp, IsListOf, of_search, of_tail, IsOfQuestion}
 use Rattle.fc_best.specs.Watch.{IsNoWorse}
 use Rattle.fc_search.specs.Watch.{Far}
-use Rattle.fc_best.specs.inner.Attempt.{IsAttempt, IsEnd, IsFoundIn, IsGivenUp, IsGoodList, IsShownIn, IsTableOf, Raises, ShowsNone, floor_of}
+use Rattle.fc_best.specs.inner.Attempt.{HasNoTable, IsAttempt, IsEnd, IsFoundIn, IsGivenUp, IsGoodList, IsShownIn, IsTableOf, Raises, ShowsNone, floor_of}
 use Rattle.fc_best.specs.inner.Standing.{AllGaveUp, IsLeastOf, IsShorter, IsShownBy, Stands, greater, limit_of, look_with, newest, with_share}
 use Rattle.fc_best.specs.inner.Watch.{IsAfter, IsFurther, floor_shown}
 
@@ -187,6 +187,7 @@ pub after_stands : (q : QuestionData) (kind : BoundKind) (b : Board) (weight : R
     → IsAfter last (floor_of attempt.shown) (limit_of list) new → IsShorter attempt.list old.list list → shown ≡ newest attempt.shown old.shown
     → most ≡ greater old.given_up attempt.given_up → (ShowsNone old.shown → ⊥) → share ≤ old.left → attempt.stored ≤ old.left
     → IfSome attempt.shown (λ end. Raises (floor_of old.shown) end.floor) → (IsTrue old.has_table → IfSome attempt.shown (λ end. IsSome end.table))
+    → (old.has_table ≡ false → HasNoTable attempt.shown)
     → IsAttempt (with_share q weight share) kind b (limit_of old.list) attempt
     → Stands q b (record {
       list = list;
@@ -197,12 +198,12 @@ pub after_stands : (q : QuestionData) (kind : BoundKind) (b : Board) (weight : R
       open_share = attempt.open_share;
       far = new;
     })
-after_stands q kind b weight share old attempt last new list shown most (searches, tails, was) further after short ends gave going within room raised made is = (
+after_stands q kind b weight share old attempt last new list shown most (searches, tails, was) further after short ends gave going within room raised made unmade is = (
   is.ended ∷ searches,
   tails,
   record {
     asked = All-cons (IsOfQuestion q b) is.ended searches
-        (record { game = is.asked.game; start = is.asked.start; rule = is.asked.rule; bound = is.asked.bound; over = is.asked.over }) was.asked;
+        (record { game = is.asked.game; start = is.asked.start; rule = is.asked.rule; bound = is.asked.bound; weight = is.asked.weight; budget = is.asked.budget; over = is.asked.over }) was.asked;
     middle = was.middle;
     spent = let sum = sum_by-cons (λ (e : State). length e.store.stored) is.ended searches in let size = is.stored in let all = was.spent in omega (arith, sum, size, all, room);
     list = shorter_both (λ moves. IsGoodList q.game b moves × IsListOf q.game b (is.ended ∷ searches) tails moves) attempt.list old.list list short
@@ -222,6 +223,8 @@ after_stands q kind b weight share old attempt last new list shown most (searche
         (λ kept. is.none both.0 kept (ap limit_of both.1))));
     tabled = λ wanted. subst (λ o. IfSome o (λ (end : Shown). IsSome end.table)) (sym ends)
         (newest_both (λ (end : Shown). IsSome end.table) attempt.shown old.shown (made wanted) (was.tabled wanted));
+    bare = λ unwanted. subst HasNoTable (sym ends)
+        (newest_both (λ (end : Shown). end.table ≡ None) attempt.shown old.shown (unmade unwanted) (was.bare unwanted));
     told = record {
       budget = after.budget ∙ further.budget ∙ was.told.budget;
       least = subst (λ o. IsLeastOf o new.at_least) (sym ends)

@@ -128,6 +128,8 @@ is_tail q b c n limit all front attempt made good same long run is joined gave f
         start = (front, there);
         rule = is.asked.rule;
         bound = is.by_kind;
+        weight = is.asked.weight;
+        budget = is.asked.budget;
         over = is.asked.over;
       };
       list = tail_made q.game b n limit is.ended all front attempt.list made good same long there
@@ -180,7 +182,7 @@ tail_stands q b old tail list new (searches, tails, was) found room short after 
       record {
         asked = was.asked;
         middle = All-cons (IsOnTheWay q b) ended tails
-            (record { game = is.asked.game; start = is.asked.start; rule = is.asked.rule; bound = is.asked.bound; over = is.asked.over }) was.middle;
+            (record { game = is.asked.game; start = is.asked.start; rule = is.asked.rule; bound = is.asked.bound; weight = is.asked.weight; budget = is.asked.budget; over = is.asked.over }) was.middle;
         spent = let sum = sum_by-cons (λ (e : State). length e.store.stored) ended tails in let size = is.stored in let all = was.spent in omega (arith, sum, size, all, room);
         list = shorter_both (λ moves. IsGoodList q.game b moves × IsListOf q.game b searches (ended ∷ tails) moves) tail.list old.list list short
             (if_some (λ moves. IsGoodList q.game b moves × HasTailOf q.game b found.all ended moves)
@@ -192,6 +194,7 @@ tail_stands q b old tail list new (searches, tails, was) found room short after 
         shown = was.shown;
         none = λ nothing. absurd (there old.list found.all found.best (short.none nothing).1);
         tabled = was.tabled;
+        bare = was.bare;
         told = record {
           budget = after.budget ∙ found.far.budget ∙ was.told.budget;
           least = subst (IsLeastOf old.shown) (let same = found.far.at_least in let most = after.at_least in let equal : old.far.at_least ≡ new.at_least = omega (arith, same, most) in equal) was.told.least;
@@ -214,6 +217,7 @@ nothing_stands q b left has_table far whole first = (
     shown = tt;
     none = λ nothing. inr (refl, refl);
     tabled = λ wanted. tt;
+    bare = λ unwanted. tt;
     told = record {
       budget = first.budget ∙ whole;
       least = first.at_least;

@@ -8,20 +8,22 @@ use Rattle.fc_answers.specs.Verdict.{CanBeWritten, HasFewMoves}
 use Rattle.fc_answers.specs.declared.answers.Answer.{Answer}
 use Rattle.fc_answers.specs.declared.answers.Verdict.{Verdict}
 use Rattle.fc_answers.specs.declared.answers.Verdict.TheVariants.{Shortest, Won, CannotWin, GaveUp}
+use Rattle.fc_best_first.specs.Limits.{IsEven}
 use Rattle.fc_methods.specs.Method.{QuestionData}
 use Rattle.fc_methods.specs.declared.methods.Sought.{Sought}
 use Rattle.fc_methods.specs.declared.methods.Sought.TheVariants.{ByMethod, Best}
 use Rattle.fc_search.specs.Problem.{Problem, problem_of}
-use Rattle.fc_search.specs.Search.{IsRunToEnd, IsVerdict}
+use Rattle.fc_search.specs.Search.{IsOneOfThree, IsRunToEnd, IsVerdict}
 use Rattle.fc_search.specs.Watch.{Report, HearsAll, HearsFar, IsHeardAtMost, IsHeardToEnd}
 use Rattle.fc_search.specs.declared.listeners.Progress.{Progress}
 use Rattle.fc_best.specs.Best.{IsBestVerdict}
 use Rattle.fc_best.specs.Watch.{HearsToEnd, HearsTold}
 
--- the verdict is right for the problem, and that of a search of it that ran to its end
+-- the verdict is right for the problem, and that of a search of it that ran to its end; by weight 1 it is one of three
 pub record IsDecided (p : Problem) (verdict : Verdict) : Type 0 where
   pub right : IsVerdict p verdict
   pub ran : IsRunToEnd p verdict
+  pub three : IsEven p.method.strategy.weight → IsOneOfThree p.game p.start p.method.strategy.budget verdict
 
 -- a verdict is what was sought of a board: that of a search by the question's method, or a best one
 abbrev pub IsSought : Sought → QuestionData → Board → Verdict → Type 0

@@ -12,6 +12,7 @@ use Rattle.fc_answers.specs.declared.answers.Answer.{Answer}
 use Rattle.fc_answers.specs.declared.answers.Verdict.{Verdict}
 use Rattle.fc_answers.specs.declared.answers.Verdict.TheVariants.{Shortest, Won, CannotWin, GaveUp}
 use Rattle.fc_answers.specs.Verdict.{CanBeWritten, HasFewMoves}
+use Rattle.fc_best_first.specs.Limits.{IsGreatBudget, IsWeight}
 use Rattle.fc_best_first.specs.Search.{reply_of}
 use Rattle.fc_best_first.specs.declared.searches.Step.TheVariants.{Done}
 use Rattle.fc_best_first.specs.declared.turns.Status.TheVariants as status
@@ -41,20 +42,26 @@ pub record HasEnded (ended : State) : Type 0 where
 abbrev pub IsBoundOf : QuestionData → BoundKind → Type 0
 IsBoundOf q kind = (kind ≡ q.method.bound) ⊎ (kind ≡ Plain)
 
--- it is one from the board by the question's game and home rule, and by its bound or the plain one, which ran to its end
+-- it is one from the board by the question's game and home rule, and by its bound or the plain one, with a weight and a budget that
+-- searches may have, which ran to its end
 pub record IsOfQuestion (q : QuestionData) (b : Board) (ended : State) : Type 0 where
   pub game : ended.problem.game ≡ q.game
   pub start : ended.problem.start ≡ b
   pub rule : ended.problem.method.rule ≡ q.method.rule
   pub bound : IsBoundOf q ended.problem.method.bound
+  pub weight : IsWeight ended.problem.method.strategy.weight
+  pub budget : IsGreatBudget ended.problem.method.strategy.budget
   pub over : HasEnded ended
 
--- it is one from a board that can be reached from the board, by the question's game, home rule and bound, which ran to its end
+-- it is one from a board that can be reached from the board, by the question's game, home rule and bound, with a weight and a budget
+-- that searches may have, which ran to its end
 pub record IsOnTheWay (q : QuestionData) (b : Board) (ended : State) : Type 0 where
   pub game : ended.problem.game ≡ q.game
   pub start : CanReach q.game b ended.problem.start
   pub rule : ended.problem.method.rule ≡ q.method.rule
   pub bound : ended.problem.method.bound ≡ q.method.bound
+  pub weight : IsWeight ended.problem.method.strategy.weight
+  pub budget : IsGreatBudget ended.problem.method.strategy.budget
   pub over : HasEnded ended
 
 -- how many classes searches store, all told

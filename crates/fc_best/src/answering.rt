@@ -1,6 +1,6 @@
 //! What a question asks of a position, answered in one way whatever is sought.
 
-ghost use Rattle.std.specs.Prelude.{◌≡◌, IfOk, IsTrue};
+ghost use Rattle.std.specs.Prelude.{◌≡◌, None, IfOk, IsTrue};
 ghost use Rattle.fc_position.specs.Position.{Fits};
 ghost use Rattle.fc_answers.specs.Verdict.{CanBeWritten};
 ghost use Rattle.fc_search.specs.Problem.{problem_of};
@@ -22,7 +22,7 @@ pub enum Wants {
 }
 
 /// The answer of a question for a position that fits its game: what one search by its method answers, or the best answer that several
-/// give, as the question seeks. A table is made where it is wanted, and the answer can then be certified. The listener hears how far
+/// give, as the question seeks. A table is made where it is wanted, and only there; the answer can then be certified. The listener hears how far
 /// they are, while they run and when they end, also where memory ends them: of the very searches that are answered.
 ///
 /// # Errors
@@ -38,6 +38,7 @@ pub fn answer<G: Game + Drop, L: Listener>(
     ensures right { IfOk result (λ answer. IsVerdictFor question.now position.now answer.verdict) }
     ensures written { IfOk result (λ answer. CanBeWritten answer.verdict) }
     ensures certifiable { wants ≡ Wants.Table → IfOk result (IsCertifiable (problem_of question.now position.now)) }
+    ensures bare { wants ≡ Wants.Verdict → IfOk result (λ answer. answer.table ≡ None) }
     ensures heard { HearsOfThem L.hears question.now.sought question.now position.now listener.old listener.new }
     ensures ended { IfOk result (λ answer. HearsVerdict L.hears question.now.sought question.now position.now answer.verdict listener.old listener.new) }
 {
@@ -59,6 +60,7 @@ fn by_method<G: Game + Drop, L: Listener>(
     ensures right { IfOk result (λ answer. IsSought Sought.ByMethod question.now position.now answer.verdict) }
     ensures written { IfOk result (λ answer. CanBeWritten answer.verdict) }
     ensures certifiable { wants ≡ Wants.Table → IfOk result (IsCertifiable (problem_of question.now position.now)) }
+    ensures bare { wants ≡ Wants.Verdict → IfOk result (λ answer. answer.table ≡ None) }
     ensures heard { HearsOfThem L.hears Sought.ByMethod question.now position.now listener.old listener.new }
     ensures ended { IfOk result (λ answer. HearsVerdict L.hears Sought.ByMethod question.now position.now answer.verdict listener.old listener.new) }
 {
@@ -86,6 +88,7 @@ fn best_answer<G: Game + Drop, L: Listener>(
     ensures right { IfOk result (λ answer. IsSought Sought.Best question.now position.now answer.verdict) }
     ensures written { IfOk result (λ answer. CanBeWritten answer.verdict) }
     ensures certifiable { wants ≡ Wants.Table → IfOk result (IsCertifiable (problem_of question.now position.now)) }
+    ensures bare { wants ≡ Wants.Verdict → IfOk result (λ answer. answer.table ≡ None) }
     ensures heard { HearsOfThem L.hears Sought.Best question.now position.now listener.old listener.new }
     ensures ended { IfOk result (λ answer. HearsVerdict L.hears Sought.Best question.now position.now answer.verdict listener.old listener.new) }
 {

@@ -2,17 +2,15 @@
 
 ghost use Rattle.fc_position.specs.Board.{Board};
 ghost use Rattle.fc_position.specs.Position.{Fits};
-ghost use Rattle.std.specs.Prelude.{length, ◌≡◌, ◌≤◌, ◌*◌, ◌/◌, ℕ, List, Option, None, IfOk, IfSome, IsSome, IsTrue, max, min};
+ghost use Rattle.std.specs.Prelude.{length, ◌≡◌, ◌≤◌, ◌*◌, ◌/◌, ℕ, List, Option, None, false, IfOk, IfSome, IsSome, IsTrue, max, min};
 ghost use Rattle.fc_best_first.specs.Search.{reply_of};
 ghost use Rattle.fc_methods.specs.Method.{QuestionData};
-ghost use Rattle.fc_search.specs.Problem.{problem_below};
-ghost use Rattle.fc_search.specs.Search.{HasRun};
 ghost use Rattle.fc_search.specs.Shown.{BacksShown, HasShown};
 ghost use Rattle.fc_search.specs.Watch.{HearsAll, HearsFar, TellFloors};
 ghost use Rattle.fc_search.specs.declared.listeners.Progress.{Progress};
 ghost use Rattle.fc_best_first.specs.Limits.{Ratio};
 ghost use Rattle.fc_bound.specs.declared.kinds.BoundKind.TheVariants.{Plain};
-ghost use Rattle.fc_best.specs.inner.Attempt.{IsAttempt, IsShownAt, Raises, ShowsNone};
+ghost use Rattle.fc_best.specs.inner.Attempt.{HasNoTable, IsAttempt, IsRunBelow, IsShownAt, Raises, ShowsNone};
 ghost use Rattle.fc_best.specs.inner.Standing.{look_with, loss_by, with_share};
 
 use fc_answers::{MoveList, Table};
@@ -100,6 +98,7 @@ impl Attempt {
         ensures raised { IfOk result (λ attempt. IfSome attempt.shown (λ end. Raises aim.least end.floor)) }
         ensures first { aim.least ≡ None → IfOk result (λ attempt. IsSome attempt.shown) }
         ensures tabled { IsTrue aim.has_table → IfOk result (λ attempt. IfSome attempt.shown (λ end. IsSome end.table)) }
+        ensures bare { aim.has_table ≡ false → IfOk result (λ attempt. HasNoTable attempt.shown) }
         ensures heard { (heard : List Progress) × HearsAll (HearsFar L.hears) listener.old heard listener.new × TellFloors question.now.game position.now heard }
     {
         below_with::<EitherFrontier, G, L>(alloc, question, position, aim, listener)
@@ -111,6 +110,7 @@ impl Attempt {
             → IsAttempt (look_with q weight share) Plain b None self → IsAttempt (with_share q weight share) Plain b None result }
         ensures raised { (least : Option ℕ) → IfSome result.shown (λ end. Raises least end.floor) }
         ensures tabled { IfSome self.shown (λ end. IsSome end.table) → IfSome result.shown (λ end. IsSome end.table) }
+        ensures bare { HasNoTable self.shown → HasNoTable result.shown }
         ensures list { result.list ≡ self.list }
         ensures stored { result.stored ≡ self.stored }
     {
@@ -132,8 +132,12 @@ fn below_with<F: Frontier + Drop, G: Game + Drop, L: Listener>(
     ensures raised { IfOk result (λ attempt. IfSome attempt.shown (λ end. Raises aim.least end.floor)) }
     ensures first { aim.least ≡ None → IfOk result (λ attempt. IsSome attempt.shown) }
     ensures tabled { IsTrue aim.has_table → IfOk result (λ attempt. IfSome attempt.shown (λ end. IsSome end.table)) }
+    ensures bare { aim.has_table ≡ false → IfOk result (λ attempt. HasNoTable attempt.shown) }
     ensures heard { (heard : List Progress) × HearsAll (HearsFar L.hears) listener.old heard listener.new × TellFloors question.now.game position.now heard }
 {
+    // (read, so that their ranges are known)
+    let strategy = question.method().strategy;
+    let _ranges = (strategy.weight.parts(), strategy.budget.get());
     let search: Search<F, G> = ended_below(alloc, question, position, aim.limit, listener)?;
     attempt_of(&search, aim)
 }
@@ -144,11 +148,11 @@ fn attempt_of<F: Frontier + Drop, G: Game + Drop>(
     aim: Aim,
 ) -> Result<Attempt, AllocError>
     requires done { reply_of search.now.status ≡ Ok Step.Done }
-    ensures right { (q : QuestionData) (b : Board) (limit : Option ℕ) → search.now.problem ≡ problem_below q b limit
-        → HasRun (problem_below q b limit) search.now.store search.now.status → IfOk result (IsAttempt q q.method.bound b limit) }
+    ensures right { (q : QuestionData) (b : Board) (limit : Option ℕ) → IsRunBelow q b limit search.now → IfOk result (IsAttempt q q.method.bound b limit) }
     ensures raised { IfOk result (λ attempt. IfSome attempt.shown (λ end. Raises aim.least end.floor)) }
     ensures first { aim.least ≡ None → IfOk result (λ attempt. IsSome attempt.shown) }
     ensures tabled { IsTrue aim.has_table → IfOk result (λ attempt. IfSome attempt.shown (λ end. IsSome end.table)) }
+    ensures bare { aim.has_table ≡ false → IfOk result (λ attempt. HasNoTable attempt.shown) }
 {
     let list = search.found()?;
     let shown = shown_of(search, aim)?;
@@ -175,6 +179,7 @@ fn shown_of<F: Frontier + Drop, G: Game + Drop>(
     ensures raised { IfOk result (λ shown. IfSome shown (λ end. Raises aim.least end.floor)) }
     ensures first { aim.least ≡ None → IfOk result IsSome }
     ensures tabled { IsTrue aim.has_table → IfOk result (λ shown. IfSome shown (λ end. IsSome end.table)) }
+    ensures bare { aim.has_table ≡ false → IfOk result HasNoTable }
 {
     let floor = search.shown();
     if !raises(aim.least, floor) {
@@ -234,6 +239,7 @@ fn table_of<F: Frontier + Drop, G: Game + Drop>(
     ensures backs { IfOk result (λ table. IfSome table (BacksShown search.now.problem shown)) }
     ensures searched { IfOk result (λ table. IfSome table (λ t. (t.rule ≡ search.now.problem.method.rule) × (t.bound ≡ search.now.problem.method.bound) × (length t.rows ≤ search.now.problem.method.strategy.budget))) }
     ensures made { IsTrue has_table → IfOk result IsSome }
+    ensures bare { has_table ≡ false → IfOk result (λ table. table ≡ None) }
 {
     if has_table {
         search.table(shown)

@@ -1,8 +1,8 @@
 //! One search of several, which is heard as one of them.
 
-ghost use Rattle.std.specs.Prelude.{◌≡◌, None, IfOk, IfSome, IsSome, IsTrue};
+ghost use Rattle.std.specs.Prelude.{◌≡◌, None, false, IfOk, IfSome, IsSome, IsTrue};
 ghost use Rattle.fc_position.specs.Position.{Fits};
-ghost use Rattle.fc_best.specs.inner.Attempt.{IsAttempt, Raises};
+ghost use Rattle.fc_best.specs.inner.Attempt.{HasNoTable, IsAttempt, Raises};
 ghost use Rattle.fc_best.specs.inner.Watch.{HearsFurther, IsFurther};
 
 use crate::attempts::{Aim, Attempt};
@@ -54,6 +54,7 @@ pub(crate) fn attempt_after<G: Game + Drop, L: Listener>(
     ensures raised { IfOk result (λ r. IfSome r.0.shown (λ end. Raises aim.least end.floor)) }
     ensures first { aim.least ≡ None → IfOk result (λ r. IsSome r.0.shown) }
     ensures tabled { IsTrue aim.has_table → IfOk result (λ r. IfSome r.0.shown (λ end. IsSome end.table)) }
+    ensures bare { aim.has_table ≡ false → IfOk result (λ r. HasNoTable r.0.shown) }
     ensures far { IfOk result (λ r. IsFurther before r.1) }
     ensures heard { HearsFurther L.hears before listener.old listener.new }
 {

@@ -1,7 +1,7 @@
 //! The searches for the best answer, one after the other.
 
 ghost use Rattle.fc_position.specs.Position.{Fits};
-ghost use Rattle.std.specs.Prelude.{◌≡◌, ◌≤◌, IfOk, IfErr, IsTrue};
+ghost use Rattle.std.specs.Prelude.{◌≡◌, ◌≤◌, None, false, IfOk, IfErr, IsTrue};
 ghost use Rattle.fc_best.specs.inner.Standing.{Stands};
 ghost use Rattle.fc_answers.specs.Answer.{IsBacked};
 ghost use Rattle.fc_best.specs.Best.{IsBestAnswer};
@@ -23,7 +23,7 @@ use std::alloc::{AllocError, Global};
 /// storing all children, which soon shows of most lost boards that none wins; then by the question's own bound and expansion, by
 /// falling weights, each for a list shorter than the best so far; then for shorter tails of the best list, from boards on its way;
 /// the last one, by weight 1, with all that is left. They end as soon as the best list is as long as the greatest floor that one of
-/// them, by the question's own bound, has shown. Only where it is wanted a table is made, which backs the answer. The listener hears
+/// them, by the question's own bound, has shown. Only where it is wanted a table is made, which backs the answer; else the answer has none. The listener hears
 /// how far all of them are after each stretch of turns of each and once when it ends, also where memory ends it, and once more when
 /// they have ended: then of the list and the floor that are answered. Once one has ended by which the list or the floor got better, it
 /// hears them too; the list that it hears last is the one that is answered. A list or a floor that was told is never lost.
@@ -40,6 +40,7 @@ pub fn best<G: Game + Drop, L: Listener>(
     requires fits { Fits question.now.game.cells position.now }
     ensures best { IfOk result (IsBestAnswer question.now position.now) }
     ensures backed { IsTrue has_table → IfOk result (IsBacked question.now.game position.now) }
+    ensures bare { has_table ≡ false → IfOk result (λ answer. answer.table ≡ None) }
     ensures heard { HearsTold L.hears question.now position.now listener.old listener.new }
     ensures ended { IfOk result (λ answer. HearsToEnd L.hears question.now position.now answer.verdict listener.old listener.new) }
 {

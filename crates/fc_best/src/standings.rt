@@ -2,7 +2,7 @@
 
 ghost use Rattle.fc_position.specs.Board.{Board};
 ghost use Rattle.fc_position.specs.Position.{Fits};
-ghost use Rattle.std.specs.Prelude.{◌≡◌, ◌+◌, ◌<◌, ◌≤◌, ℕ, None, IfOk, IfErr, IfSome, IsSome, IsTrue, length};
+ghost use Rattle.std.specs.Prelude.{◌≡◌, ◌+◌, ◌<◌, ◌≤◌, ℕ, None, false, IfOk, IfErr, IfSome, IsSome, IsTrue, length};
 ghost use Rattle.fc_answers.specs.Answer.{IsBacked};
 ghost use Rattle.fc_answers.specs.declared.answers.TheConstants.{MOST_MOVES};
 ghost use Rattle.fc_best_first.specs.Limits.{Ratio};
@@ -11,7 +11,7 @@ ghost use Rattle.fc_bound.specs.declared.kinds.BoundKind.{BoundKind};
 ghost use Rattle.fc_best.specs.Best.{IsBestAnswer};
 ghost use Rattle.fc_best.specs.Watch.{IsNoWorse, IsToldOf, list_told};
 ghost use Rattle.fc_search.specs.Watch.{Far};
-ghost use Rattle.fc_best.specs.inner.Attempt.{floor_of, Raises, ShowsNone};
+ghost use Rattle.fc_best.specs.inner.Attempt.{HasNoTable, floor_of, Raises, ShowsNone};
 ghost use Rattle.fc_best.specs.inner.Standing.{greater, limit_of, newest, IsNextAttempt, IsShorter, Stands};
 ghost use Rattle.fc_best.specs.inner.Watch.{HearsOn, HearsSome, IsFurther, list_in};
 
@@ -231,6 +231,7 @@ impl Standing {
         requires room { attempt.stored ≤ self.left }
         requires raised { IfSome attempt.shown (λ end. Raises (floor_of self.shown) end.floor) }
         requires tabled { IsTrue self.has_table → IfSome attempt.shown (λ end. IsSome end.table) }
+        requires bare { self.has_table ≡ false → HasNoTable attempt.shown }
         ensures stands { (q : QuestionData) (kind : BoundKind) (b : Board) (weight : Ratio) (share : ℕ) → Stands q b self → share ≤ self.left
             → IsNextAttempt q (weight, share) kind b self attempt → IsFurther self.far far → Stands q b result }
         ensures rises { (q : QuestionData) (b : Board) → Stands q b self → IsFurther self.far far → IsNoWorse (Far self.far) (Far result.far) }
@@ -272,6 +273,7 @@ impl Standing {
         requires shown { IsSome self.shown }
         ensures best { (q : QuestionData) (b : Board) → Stands q b self → IsBestAnswer q b result }
         ensures backed { (q : QuestionData) (b : Board) → Stands q b self → IsTrue self.has_table → IsBacked q.game b result }
+        ensures bare { (q : QuestionData) (b : Board) → Stands q b self → self.has_table ≡ false → result.table ≡ None }
         ensures told { (q : QuestionData) (b : Board) → Stands q b self → IsToldOf result.verdict self.far }
         ensures listed { (q : QuestionData) (b : Board) → Stands q b self → list_in self ≡ list_told result.verdict }
     {

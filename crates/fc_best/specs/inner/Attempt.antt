@@ -12,9 +12,11 @@ use Rattle.fc_answers.specs.declared.answers.TheConstants.{MOST_MOVES}
 use Rattle.fc_best.specs.declared.attempts.Attempt.{Attempt}
 use Rattle.fc_best.specs.declared.attempts.Shown.{Shown}
 use Rattle.fc_best.specs.Best.{HasGivenUp, IsFloor, IsOfQuestion}
+use Rattle.fc_best_first.specs.Limits.{IsGreatBudget, IsWeight}
 use Rattle.fc_methods.specs.Method.{QuestionData}
 use Rattle.fc_search.specs.Need.{NeedsMore}
-use Rattle.fc_search.specs.Search.{State}
+use Rattle.fc_search.specs.Problem.{problem_below}
+use Rattle.fc_search.specs.Search.{HasRun, State}
 use Rattle.fc_search.specs.Shown.{BacksShown, HasFound, HasShown}
 
 -- the list wins, and can be written: each of its moves has a text, and they are no more than a list that is answered may have
@@ -46,6 +48,21 @@ floor_of (Some end) = end.floor
 -- it is shown that none wins
 abbrev pub ShowsNone : Option Shown → Type 0
 ShowsNone shown = (end : Shown) × (shown ≡ Some end) × (end.floor ≡ None)
+
+-- a question's weight and budget are such as searches may have
+pub record IsInRange (q : QuestionData) : Type 0 where
+  pub weight : IsWeight q.method.strategy.weight
+  pub budget : IsGreatBudget q.method.strategy.budget
+
+-- a search of the question from the board, below a limit if there is one, ran to where it stands
+pub record IsRunBelow (q : QuestionData) (b : Board) (limit : Option ℕ) (s : State) : Type 0 where
+  pub asked : s.problem ≡ problem_below q b limit
+  pub ran : HasRun (problem_below q b limit) s.store s.status
+  pub range : IsInRange q
+
+-- what is shown has no table
+abbrev pub HasNoTable : Option Shown → Type 0
+HasNoTable shown = IfSome shown (λ end. end.table ≡ None)
 
 -- where both are floors, the new one is greater
 abbrev pub Raises : Option ℕ → Option ℕ → Type 0

@@ -1,5 +1,5 @@
 -- What the searches so far have found and shown, taken together.
-use Rattle.std.specs.Prelude.{max, ◌≡◌, ◌⊎◌, ℕ, ◌+◌, ◌≤◌, List, [], All, Option, Some, None, IfSome, IsSome, IsTrue, MatchOption, length}
+use Rattle.std.specs.Prelude.{max, ◌≡◌, ◌⊎◌, ℕ, ◌+◌, ◌≤◌, List, [], All, Option, Some, None, false, IfSome, IsSome, IsTrue, MatchOption, length}
 use Rattle.fc_position.specs.Board.{Board}
 use Rattle.fc_moves.specs.declared.steps.Move.{Move}
 use Rattle.fc_moves.specs.Run.{ReachesMore}
@@ -13,7 +13,7 @@ use Rattle.fc_best.specs.declared.attempts.Shown.{Shown}
 use Rattle.fc_search.specs.declared.listeners.Progress.{Progress}
 use Rattle.fc_best.specs.declared.standings.Standing.{Standing}
 use Rattle.fc_best.specs.Best.{HaveGivenUp, IsFloorOf, IsListOf, IsLostBy, IsOfQuestion, IsOnTheWay, stored_by}
-use Rattle.fc_best.specs.inner.Attempt.{IsAttempt, IsEnd, IsGoodList, ShowsNone}
+use Rattle.fc_best.specs.inner.Attempt.{HasNoTable, IsAttempt, IsEnd, IsGoodList, ShowsNone}
 use Rattle.fc_methods.specs.Method.{QuestionData}
 use Rattle.fc_methods.specs.declared.methods.Sought.TheVariants.{ByMethod}
 use Rattle.fc_search.specs.Search.{State}
@@ -46,7 +46,7 @@ pub record IsToldWith (q : QuestionData) (list : Option (List Move)) (shown : Op
 
 -- what these searches of the question from the board have found and shown is so, and others for shorter tails of their lists, and
 -- this is left of the budget; the list and what is shown rest on them; where they found no list, each gave up, or one showed that
--- none wins; what is shown has a table, where that is wanted; and how far they are is told so
+-- none wins; what is shown has a table where that is wanted, and only there; and how far they are is told so
 pub record IsStanding (q : QuestionData) (b : Board) (searches tails : List State) (standing : Standing) : Type 0 where
   pub asked : All (IsOfQuestion q b) searches
   pub middle : All (IsOnTheWay q b) tails
@@ -55,6 +55,7 @@ pub record IsStanding (q : QuestionData) (b : Board) (searches tails : List Stat
   pub shown : IfSome standing.shown (λ end. IsEnd q b end × IsShownBy q searches end.floor)
   pub none : standing.list ≡ None → ShowsNone standing.shown ⊎ AllGaveUp q b searches standing.shown standing.given_up
   pub tabled : IsTrue standing.has_table → IfSome standing.shown (λ end. IsSome end.table)
+  pub bare : standing.has_table ≡ false → HasNoTable standing.shown
   pub told : IsToldWith q standing.list standing.shown standing.far
 
 -- it is so of some searches

@@ -1,3 +1,4 @@
+use Rattle.std.proofs.Common.{◌∙◌}
 use Rattle.fc_best.proofs.HearLemmas.{end_told, hears_end, hears_more, some_more, some_told}
 use Rattle.fc_best.proofs.schedule.best.Goals as goal
 
@@ -50,3 +51,9 @@ pub returns-clause-heard : goal.returns-clause-heard
 returns-clause-heard g c =
     end_told c.args.question.now c.args.position.now g.L.Listener.hears c.args.listener.now c.hear.new.self c.into_answer.result.verdict
     (returns-clause-ended g c)
+
+pub returns-clause-bare : goal.returns-clause-bare
+returns-clause-bare g c none =
+    c.into_answer.ensures.bare c.args.question.now c.args.position.now c.in_ok-standing-3.ensures.stands
+    (c.in_ok-standing-3.ensures.has_table ∙ c.in_ok-standing-2.ensures.has_table ∙ c.in_ok-standing.ensures.has_table
+    ∙ c.new-standing.ensures.has_table ∙ none)

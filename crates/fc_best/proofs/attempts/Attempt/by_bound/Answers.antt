@@ -1,8 +1,8 @@
 use Rattle.std.proofs.Common.{sym, subst}
 use Rattle.std.specs.Prelude.{IfSome, IsSome}
 use Rattle.fc_best.specs.declared.attempts.Shown.{Shown}
-use Rattle.fc_best.specs.inner.Attempt.{Raises}
-use Rattle.fc_best.proofs.AttemptLemmas.{looked_attempt, lost_raises, lost_tabled}
+use Rattle.fc_best.specs.inner.Attempt.{HasNoTable, Raises}
+use Rattle.fc_best.proofs.AttemptLemmas.{looked_attempt, lost_bare, lost_raises, lost_tabled}
 use Rattle.fc_best.proofs.attempts.Attempt.by_bound.Goals as goal
 
 pub returns-clause-right : goal.returns-clause-right
@@ -16,3 +16,6 @@ returns-clause-raised c least =
 pub returns-clause-tabled : goal.returns-clause-tabled
 returns-clause-tabled c made =
     subst (λ o. IfSome o (λ (end : Shown). IsSome end.table)) (sym c.lost_by-shown.ensures.value) (lost_tabled c.args.bound c.args.self.shown made)
+
+pub returns-clause-bare : goal.returns-clause-bare
+returns-clause-bare c none = subst HasNoTable (sym c.lost_by-shown.ensures.value) (lost_bare c.args.bound c.args.self.shown none)

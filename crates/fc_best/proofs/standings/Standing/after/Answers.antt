@@ -13,7 +13,7 @@ returns-clause-stands c q kind b weight share stands within attempt further =
     let after = subst (λ n. IsAfter c.args.far (floor_of one.shown) n far) c.limit_of.ensures.value
     (subst (λ f. IsAfter c.args.far f c.limit_of.result far) c.floor_of.ensures.value c.progress_after-far.ensures.after) in
     after_stands q kind b weight share old one c.args.far far list c.newest.result c.greater.result stands further after c.shorter-list.ensures.shorter
-    c.newest.ensures.value c.greater.ensures.value c.requires.open within c.requires.room c.requires.raised c.requires.tabled attempt
+    c.newest.ensures.value c.greater.ensures.value c.requires.open within c.requires.room c.requires.raised c.requires.tabled c.requires.bare attempt
 
 pub returns-clause-rises : goal.returns-clause-rises
 returns-clause-rises c q b stands further =
