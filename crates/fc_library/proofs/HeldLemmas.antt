@@ -22,10 +22,11 @@ module _ (sink : Device) (bytes : List ℕ) (empty : sink.old ≡ Some []) (full
       → TakesCertificate p verdict (sink_holding bytes) ⊎ IsTooLong p verdict (sink_holding bytes)
   written_held p verdict (inl ((own, is, taken), sound)) = inl ((own, is, takes_held own taken), λ failed. absurd (cc failed))
   written_held p verdict (inr is) = inr (record {
-    great = is.great;
-    bytes = is.bytes;
+    answered = is.answered;
+    of_verdict = is.of_verdict;
+    certifiable = is.certifiable;
+    too_long = is.too_long;
     certificate = is.certificate;
-    long = is.long;
     untouched = stays_held is.untouched;
   })
 

@@ -99,7 +99,7 @@ pub(crate) fn certified_of<G: Game>(
     let told = told_of(alloc, &answer.verdict)?;
     let mut certificate = ToVec::new(alloc);
     match write_certificate(game, answer, &mut certificate) {
-        Ok(()) => Ok(Certified {
+        Ok(_) => Ok(Certified {
             told,
             certificate: certificate.into_bytes(),
         }),

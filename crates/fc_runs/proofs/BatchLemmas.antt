@@ -9,21 +9,25 @@ use Rattle.fc_io.specs.Moves.{TakesBytes, TakesFront}
 use Rattle.fc_io.proofs.MoveLemmas.{TakesBytes-both, takes_then_front}
 use Rattle.fc_deal.specs.Deal.{dealt_board}
 use Rattle.fc_answers.specs.declared.answers.Outcome.{Outcome}
+use Rattle.fc_answers.specs.declared.answers.Verdict.{Verdict}
+use Rattle.fc_answers.specs.declared.answers.Verdict.TheVariants.{Shortest, Won, CannotWin, GaveUp}
+use Rattle.fc_answers.specs.Verdict.{outcome_of}
 use Rattle.fc_best_first.specs.declared.searches.SearchFault.{SearchFault}
 use Rattle.fc_best_first.specs.declared.searches.Step.{Step}
 use Rattle.fc_best_first.specs.declared.turns.Status.{Status}
 use Rattle.fc_best_first.specs.declared.turns.Status.TheVariants.{Running}
 use Rattle.fc_best_first.specs.Graph.{Task}
+use Rattle.fc_best_first.specs.Limits.{IsEven}
 use Rattle.fc_best_first.specs.Search.{Begins, Turns, TurnsOn}
 use Rattle.fc_best_first.specs.Store.{Store}
 use Rattle.fc_methods.specs.Method.{QuestionData}
 use Rattle.fc_search.specs.Problem.{Problem, problem_of, task_of_problem}
-use Rattle.fc_search.specs.Search.{State}
+use Rattle.fc_search.specs.Search.{IsOfStatus, IsOneOfThree, IsVerdict, State}
 use Rattle.fc_batch.specs.Batch.{Batch, HasTurn, HasTurns, OthersStay, TurnFor, TurnsFor, count_if_running, search_at, times}
 use Rattle.fc_batch.proofs.BatchLemmas.{stays_self}
 use Rattle.fc_batch.proofs.LawLemmas.{turn_alone}
 use Rattle.fc_board_runs.specs.Devices.{Device}
-use Rattle.fc_runs.specs.Batches.{AreCutShort, AreLines, AreTold, greatest_status}
+use Rattle.fc_runs.specs.Batches.{AreCutShort, AreLines, AreTold, IsToldOf, greatest_status}
 use Rattle.fc_answer_text.specs.AnswerText.{Line, line_text, told_status}
 use Rattle.fc_runs.specs.inner.Batches.{HaveEnded, HoldsDeals, IsSearchOf}
 
@@ -210,3 +214,31 @@ held_more q from count old new search holds others there here i within =
     let before = holds i (omega (arith, within, other)) in
     (before.0, others i other ∙ before.1, before.2))
     (cases_eq i count)
+
+-- by weight 1 a right verdict is one of three
+three_of : (p : Problem) (verdict : Verdict) → IsVerdict p verdict → IsEven p.method.strategy.weight
+    → IsOneOfThree p.game p.start p.method.strategy.budget verdict
+three_of p (Shortest moves) is even = is.right
+three_of p (Won moves floor) is even = let above = is.right.above in absurd (omega (arith, above, even))
+three_of p CannotWin is even = is.right
+three_of p (GaveUp told) is even = is.right
+
+-- what is told of the verdict of a deal's search is right
+pub told_right : (q : QuestionData) (deal : ℕ) (s : State) (verdict : Verdict) (told : Outcome) → IsVerdict s.problem verdict
+    → IsOfStatus s.problem s.store s.status verdict → IsSearchOf q deal s → told ≡ outcome_of verdict → IsToldOf q deal told
+told_right q deal s verdict told is kind of same =
+    let right : IsVerdict (problem_of q (dealt_board deal)) verdict = subst (λ (p : Problem). IsVerdict p verdict) of.problem is in
+    record {
+      verdict = verdict;
+      decided = record {
+        right = right;
+        ran = record {
+          last = s.store;
+          status = s.status;
+          ran = of.ran;
+          answered = subst (λ (p : Problem). IsOfStatus p s.store s.status verdict) of.problem kind;
+        };
+        three = three_of (problem_of q (dealt_board deal)) verdict right;
+      };
+      answer = same;
+    }

@@ -4,6 +4,7 @@ use Rattle.fc_io.specs.Moves.{TakesBytes, TakesFront}
 use Rattle.fc_moves.specs.declared.steps.Move.{Move}
 use Rattle.fc_moves.specs.GameRules.{GameRules, IsGame, IsPositionOf}
 use Rattle.fc_bound.specs.declared.kinds.BoundKind.{BoundKind}
+use Rattle.fc_answers.specs.Answer.{HasGivenUp}
 use Rattle.fc_answers.specs.declared.answers.Answer.{Answer}
 use Rattle.fc_answers.specs.declared.answers.Verdict.{Verdict}
 use Rattle.fc_answers.specs.declared.answers.Verdict.TheVariants.{Shortest, Won, CannotWin, GaveUp}
@@ -20,12 +21,13 @@ use Rattle.fc_cert.specs.Claim.{IsWrittenAs, IsWrittenWith, written_form, writte
 use Rattle.fc_cert.specs.Content.{Content, bytes_of}
 use Rattle.fc_cert.proofs.CertifiedLemmas.{backed_certified, backed_spelled}
 use Rattle.fc_cert.specs.declared.faults.CertFault.TheVariants.{Write}
-use Rattle.fc_cert.specs.Writing.{SinkState, WritesAnswer}
+use Rattle.fc_cert.specs.Writing.{IsUncertified, SinkState, WritesAnswer}
 use Rattle.fc_board_runs.specs.Devices.{Device, IsUntouched}
 use Rattle.fc_board_runs.specs.declared.faults.Output.TheVariants.{Answer as of_answer, Cert as of_certificate}
 use Rattle.fc_board_runs.specs.declared.faults.ProgramFault.TheVariants.{Write as unwritten}
 use Rattle.fc_answer_text.specs.AnswerText.{answer_text, status_of}
-use Rattle.fc_runs.specs.Solving.{IsAnsweredBy, IsCertificateOf, IsCertified, IsCutShort, IsUnansweredBy, TakesCertificate}
+use Rattle.fc_runs.specs.Solving.{IsAnsweredBy, IsCertificateOf, IsCertified, IsCutShort, IsTooLong, IsTooLongFor, IsUnansweredBy, TakesCertificate}
+use Rattle.fc_runs.specs.declared.certifying.TheConstants.{FEW_CLASSES}
 
 -- the form is the one of the bound that was searched by
 form_by : (kind bound : BoundKind) (c : Content) → c.head.form ≡ written_form bound c.head.kind → bound ≡ kind
@@ -102,17 +104,18 @@ whole_of : (p : Problem) (verdict : Verdict) (table : Option Listing) (old new :
     → IsPositionOf p.game p.start → IsCertifiable p (record { verdict = verdict; table = table })
     → IsShortOf p.game (record { verdict = verdict; table = table })
     → WritesAnswer p.game (record { verdict = verdict; table = table }) old new (Ok done)
-    → IsCertified p verdict (device_of old new)
+    → TakesCertificate p verdict (device_of old new) × IsCertified p verdict (device_of old new)
 whole_of p verdict (Some table) old new done game position answers short (c, same, whole) =
-    certified_so p verdict table c (device_of old new) same (
+    let taken : TakesCertificate p verdict (device_of old new) = (
       (bytes_of c, (certifies p verdict table c game position answers same, short c same), whole.taken),
       sound new whole.is_sound,
-    )
+    ) in
+    (taken, certified_so p verdict table c (device_of old new) same taken)
 whole_of p verdict None old new done game position answers short (c, same, whole) = absurd same
 
 pub written_whole : (p : Problem) (answered : Answer) (old new : SinkState) (done : Unit {0}) → IsGame p.game
     → IsPositionOf p.game p.start → IsCertifiable p answered → IsShortOf p.game answered → WritesAnswer p.game answered old new (Ok done)
-    → IsCertified p answered.verdict (device_of old new)
+    → TakesCertificate p answered.verdict (device_of old new) × IsCertified p answered.verdict (device_of old new)
 written_whole p answered old new done game position answers short writes =
     whole_of p answered.verdict answered.table old new done game position answers short writes
 
@@ -138,44 +141,76 @@ written_short p answered old new game position answers few writes =
 abbrev content_of : Problem → Listing → Kind → ℕ → List Move → Content
 content_of p table claimed floor moves = record { head = written_head p.game table claimed floor; moves = moves; rows = table.rows }
 
--- nothing is written of an answer whose certificate is longer than what is read
-long_of : (p : Problem) (verdict : Verdict) (table : Option Listing) (sink : Device) → IsGame p.game → IsPositionOf p.game p.start
-    → IsCertifiable p (record { verdict = verdict; table = table }) → IsLong (record { verdict = verdict; table = table })
-    → IsUntouched sink → IsCertified p verdict sink
-long_of p verdict None sink game position answers is untouched = absurd (is.certified (inl refl))
-long_of p (Shortest moves) (Some table) sink game position answers is untouched =
+-- the content that an answer is written as whose certificate is longer than what is read
+far_of : (p : Problem) (verdict : Verdict) (table : Option Listing) → IsCertifiable p (record { verdict = verdict; table = table })
+    → IsLong (record { verdict = verdict; table = table }) → IsTooLongFor p (record { verdict = verdict; table = table })
+far_of p verdict None answers is = absurd (is.certified (inl refl))
+far_of p (Shortest moves) (Some table) answers is =
     let c : Content = content_of p table kind.Shortest 0 moves in
-    inr (record {
-      great = (let many = is.many in let few = answers.searched.2 in omega (arith, many, few));
-      bytes = bytes_of c;
-      certificate = certifies p (Shortest moves) table c game position answers refl;
-      long = is.long p.game c refl;
-      untouched = untouched;
-    })
-long_of p (Won moves floor) (Some table) sink game position answers is untouched =
+    record { content = c; written = refl; many = is.many; within = answers.searched.2; long = is.long p.game c refl }
+far_of p (Won moves floor) (Some table) answers is =
     let c : Content = content_of p table kind.Between floor moves in
-    inr (record {
-      great = (let many = is.many in let few = answers.searched.2 in omega (arith, many, few));
-      bytes = bytes_of c;
-      certificate = certifies p (Won moves floor) table c game position answers refl;
-      long = is.long p.game c refl;
-      untouched = untouched;
-    })
-long_of p CannotWin (Some table) sink game position answers is untouched =
+    record { content = c; written = refl; many = is.many; within = answers.searched.2; long = is.long p.game c refl }
+far_of p CannotWin (Some table) answers is =
     let c : Content = content_of p table kind.CannotWin 0 [] in
-    inr (record {
-      great = (let many = is.many in let few = answers.searched.2 in omega (arith, many, few));
-      bytes = bytes_of c;
-      certificate = certifies p CannotWin table c game position answers refl;
-      long = is.long p.game c refl;
-      untouched = untouched;
-    })
-long_of p (GaveUp told) (Some table) sink game position answers is untouched = absurd (is.certified (inr tt))
+    record { content = c; written = refl; many = is.many; within = answers.searched.2; long = is.long p.game c refl }
+far_of p (GaveUp told) (Some table) answers is = absurd (is.certified (inr tt))
+
+pub too_long : (p : Problem) (answered : Answer) → IsCertifiable p answered → IsLong answered → IsTooLongFor p answered
+too_long p answered answers is = far_of p answered.verdict answered.table answers is
+
+-- nothing is written of an answer whose certificate is too long
+long_of : (p : Problem) (verdict : Verdict) (table : Option Listing) (sink : Device) → IsGame p.game → IsPositionOf p.game p.start
+    → IsCertifiable p (record { verdict = verdict; table = table }) → IsTooLongFor p (record { verdict = verdict; table = table })
+    → IsUntouched sink → IsCertified p verdict sink
+long_of p verdict None sink game position answers far untouched = absurd far.written
+long_of p (Shortest moves) (Some table) sink game position answers far untouched = inr (record {
+  answered = record { verdict = Shortest moves; table = Some table };
+  of_verdict = refl;
+  certifiable = answers;
+  too_long = far;
+  certificate = certifies p (Shortest moves) table far.content game position answers far.written;
+  untouched = untouched;
+})
+long_of p (Won moves floor) (Some table) sink game position answers far untouched = inr (record {
+  answered = record { verdict = Won moves floor; table = Some table };
+  of_verdict = refl;
+  certifiable = answers;
+  too_long = far;
+  certificate = certifies p (Won moves floor) table far.content game position answers far.written;
+  untouched = untouched;
+})
+long_of p CannotWin (Some table) sink game position answers far untouched = inr (record {
+  answered = record { verdict = CannotWin; table = Some table };
+  of_verdict = refl;
+  certifiable = answers;
+  too_long = far;
+  certificate = certifies p CannotWin table far.content game position answers far.written;
+  untouched = untouched;
+})
+long_of p (GaveUp told) (Some table) sink game position answers far untouched = absurd far.written
 
 pub unwritten_long : (p : Problem) (answered : Answer) (sink : Device) → IsGame p.game → IsPositionOf p.game p.start
     → IsCertifiable p answered → IsLong answered → IsUntouched sink → IsCertified p answered.verdict sink
 unwritten_long p answered sink game position answers is untouched =
-    long_of p answered.verdict answered.table sink game position answers is untouched
+    long_of p answered.verdict answered.table sink game position answers (too_long p answered answers is) untouched
+
+-- within a budget of few classes no certificate is too long
+pub few_written : (p : Problem) (verdict : Verdict) (sink : Device) → p.method.strategy.budget ≤ FEW_CLASSES → IsTooLong p verdict sink → ⊥
+few_written p verdict sink few is =
+    let many = is.too_long.many in
+    let within = is.too_long.within in
+    omega (arith, few, many, within)
+
+-- an answer without a certificate that can be certified gave up
+gave_up_of : (p : Problem) (verdict : Verdict) (table : Option Listing) → IsCertifiable p (record { verdict = verdict; table = table })
+    → IsUncertified (record { verdict = verdict; table = table }) → HasGivenUp verdict
+gave_up_of p verdict None answers is = answers.backed
+gave_up_of p verdict (Some table) answers (inl none) = absurd (cc)
+gave_up_of p verdict (Some table) answers (inr gave_up) = gave_up
+
+pub without_certificate : (p : Problem) (answered : Answer) → IsCertifiable p answered → IsUncertified answered → HasGivenUp answered.verdict
+without_certificate p answered answers is = gave_up_of p answered.verdict answered.table answers is
 
 module _ (is_decided : Verdict → Type 0) where
   -- a certificate that is cut short leaves the board unanswered

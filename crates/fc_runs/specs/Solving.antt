@@ -3,26 +3,30 @@ use Rattle.std.specs.Prelude.{◌≡◌, ◌⊎◌, ◌<◌, ◌≤◌, ℕ, Lis
 use Rattle.fc_io.specs.Moves.{TakesBytes, TakesFront, Stays}
 use Rattle.fc_position.specs.Board.{Board}
 use Rattle.fc_moves.specs.declared.steps.Move.{Move}
+use Rattle.fc_answers.specs.Answer.{HasGivenUp}
+use Rattle.fc_answers.specs.declared.answers.Answer.{Answer}
 use Rattle.fc_answers.specs.declared.answers.Verdict.{Verdict}
 use Rattle.fc_answers.specs.declared.answers.Verdict.TheVariants.{Shortest, Won, CannotWin, GaveUp}
 use Rattle.fc_best_first.specs.Limits.{IsBudget}
-use Rattle.fc_best_first.specs.declared.limits.TheConstants.{MOST_BUDGET}
 use Rattle.fc_methods.specs.Method.{QuestionData}
 use Rattle.fc_search.specs.Problem.{Problem, problem_of}
 use Rattle.fc_search.specs.Search.{IsOneOfThree}
 use Rattle.fc_search.specs.Watch.{Report}
-use Rattle.fc_best.specs.Answering.{HearsVerdict, IsDecided, IsVerdictFor}
+use Rattle.fc_best.specs.Answering.{HearsVerdict, IsCertifiable, IsDecided, IsVerdictFor}
 use Rattle.fc_cert.specs.declared.certificates.TheConstants.{LONGEST_CERTIFICATE}
 use Rattle.fc_cert.specs.declared.claims.Claim.{Claim}
 use Rattle.fc_cert.specs.declared.claims.Claim.TheVariants as claim
-use Rattle.fc_cert.specs.Claim.{IsCertificate, written_form}
-use Rattle.fc_cert.specs.Content.{Content, IsSpelled}
+use Rattle.fc_cert.specs.Claim.{IsCertificate, IsWrittenAs, written_form}
+use Rattle.fc_cert.specs.Content.{Content, IsSpelled, bytes_of}
 use Rattle.fc_board_runs.specs.declared.faults.Input.TheVariants.{Board as of_board}
 use Rattle.fc_board_runs.specs.declared.faults.Output.TheVariants.{Answer as of_answer, Cert as of_certificate}
 use Rattle.fc_board_runs.specs.declared.faults.ProgramFault.{ProgramFault}
 use Rattle.fc_board_runs.specs.declared.faults.ProgramFault.TheVariants.{Budget, Board as bad_board, Read, Write, Memory}
 use Rattle.fc_board_runs.specs.Devices.{Device, GivesBoard, GivesFault, IsUntouched}
 use Rattle.fc_answer_text.specs.AnswerText.{answer_text, status_of}
+use Rattle.fc_runs.specs.declared.certifying.Certification.{Certification}
+use Rattle.fc_runs.specs.declared.certifying.Certification.TheVariants.{Written, GaveUp as NoneAsGivenUp, TooLong}
+use Rattle.fc_runs.specs.declared.certifying.TheConstants.{FEW_CLASSES}
 
 -- what a verdict claims, if anything: a search that gave up claims nothing
 abbrev pub claim_of : Verdict → Option Claim
@@ -60,13 +64,30 @@ abbrev pub TakesCertificate : Problem → Verdict → Device → Type 0
 TakesCertificate p verdict sink =
     ((bytes : List ℕ) × IsShortCertificateOf p verdict bytes × TakesBytes sink.old sink.new bytes) × (IsTrue sink.failed → ⊥)
 
--- nothing is written: the certificate of the verdict has more bytes than are read, which needs a budget above that of one search
+-- the content that the answer is written as has more bytes than are read: so it lists more classes than few, and no more than the
+-- budget
+pub record IsTooLongFor (p : Problem) (answered : Answer) : Type 0 where
+  pub content : Content
+  pub written : IsWrittenAs p.game answered content
+  pub many : FEW_CLASSES < length content.rows
+  pub within : length content.rows ≤ p.method.strategy.budget
+  pub long : LONGEST_CERTIFICATE < length (bytes_of content)
+
+-- nothing is written: the answer with this verdict, which can be certified, is written as a content that is too long
 pub record IsTooLong (p : Problem) (verdict : Verdict) (sink : Device) : Type 0 where
-  pub great : MOST_BUDGET < p.method.strategy.budget
-  pub bytes : List ℕ
-  pub certificate : IsCertificateOf p verdict bytes
-  pub long : LONGEST_CERTIFICATE < length bytes
+  pub answered : Answer
+  pub of_verdict : answered.verdict ≡ verdict
+  pub certifiable : IsCertifiable p answered
+  pub too_long : IsTooLongFor p answered
+  pub certificate : IsCertificateOf p verdict (bytes_of too_long.content)
   pub untouched : IsUntouched sink
+
+-- what became of the certificate of an answer: a sink took it, all of it; or the answer gave up, or it is too long, and nothing is
+-- written
+abbrev pub IsCertifiedSo : Problem → Answer → Device → Certification → Type 0
+IsCertifiedSo p answered sink Written = TakesCertificate p answered.verdict sink
+IsCertifiedSo p answered sink NoneAsGivenUp = HasGivenUp answered.verdict × IsUntouched sink
+IsCertifiedSo p answered sink TooLong = IsTooLongFor p answered × IsUntouched sink
 
 -- a sink took what there is of certificates of the verdict: one that isn't too long, and of giving up nothing
 abbrev pub IsCertified : Problem → Verdict → Device → Type 0

@@ -262,7 +262,7 @@ fn certified_row<G: Game + Drop, C: Sink>(
     let Ok(answer) = answer(alloc, question, start, Wants::Table, &mut last) else {
         return Ok(row_of_memory(question, last.far));
     };
-    let Ok(()) = write_certificate(question.game(), &answer, cert) else {
+    let Ok(_) = write_certificate(question.game(), &answer, cert) else {
         return Err(ProgramFault::Write(Output::Cert));
     };
     Ok(row_of(question, answer.verdict, last.far))

@@ -92,7 +92,7 @@ pub(crate) fn certify<G: Game + Drop, K: Sink, C: Sink, L: Listener>(
 {
     let answer = answer(alloc, question, start, Wants::Table, listener)?;
     let text = verdict_text(alloc, &answer.verdict)?;
-    let Ok(()) = write_certificate(question.game(), &answer, cert) else {
+    let Ok(_) = write_certificate(question.game(), &answer, cert) else {
         return Err(ProgramFault::Write(Output::Cert));
     };
     match write_all(out, text.as_slice()) {

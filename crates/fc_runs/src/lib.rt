@@ -3,7 +3,7 @@
 #![tactic(auto)]
 
 pub use answer_rows::{Far, Row, answer_row};
-pub use certifying::write_certificate;
+pub use certifying::{Certification, FEW_CLASSES, write_certificate};
 pub use checking::run_check_of;
 pub use deal_batches::{MOST_DEALS, run_answers};
 pub use delivering::run_answer;
