@@ -3,4 +3,5 @@ pub mod GlueLemmas
 pub mod HandLemmas
 pub mod RatingLemmas
 pub mod ReviewLemmas
+pub mod SpanLemmas
 pub mod WeaveLemmas

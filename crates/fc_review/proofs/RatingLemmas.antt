@@ -19,8 +19,7 @@ use Rattle.fc_search.specs.Problem.{problem_of}
 use Rattle.fc_best.specs.Best.{IsBest, IsBestAnswer, IsBestVerdict, IsFloor}
 use Rattle.fc_best.specs.Watch.{floor_told}
 use Rattle.fc_best.specs.Answering.{IsCertifiable, TellsWins}
-use Rattle.fc_review.specs.Rating.{IsGivingUp, IsOwnVerdict}
-use Rattle.fc_review.specs.inner.Own.{SaysAbove}
+use Rattle.fc_review.specs.Rating.{IsGivingUp, IsOwnVerdict, SaysAbove}
 
 -- what is the same in an option is the same
 some_or : Option ℕ → ℕ
@@ -49,25 +48,23 @@ gives_up q b moves (GaveUp up) is wins none = (up, refl)
 
 -- what the floor says of the list is right
 says_right : (q : QuestionData) (b : Board) (moves : List Move) (floor : ℕ) (own : Verdict) → Wins q.game b moves → IsFloor q.game b floor
-    → SaysAbove moves floor own → IsOwnVerdict q b moves own
+    → SaysAbove moves floor own → IsBest q.game b q.method.strategy.budget own
 says_right q b moves floor own wins least (inl (short, same)) =
-    subst (IsOwnVerdict q b moves) (sym same) (
-      refl,
-      record {
-        wins = wins;
-        least = λ others more. let far = least others more in omega (arith, short, far);
-      },
-    )
-says_right q b moves floor own wins least (inr (long, same)) = subst (IsOwnVerdict q b moves) (sym same) (refl, (wins, least, long))
+    subst (IsBest q.game b q.method.strategy.budget) (sym same)
+    record {
+      wins = wins;
+      least = λ others more. let far = least others more in omega (arith, short, far);
+    }
+says_right q b moves floor own wins least (inr (long, same)) = subst (IsBest q.game b q.method.strategy.budget) (sym same) (wins, least, long)
 
 pub own_right : (q : QuestionData) (b : Board) (moves : List Move) (best own : Verdict) (floor : ℕ) → IsBestVerdict q b best → Wins q.game b moves
-    → floor_told best ≡ Some floor → SaysAbove moves floor own → IsOwnVerdict q b moves own
-own_right q b moves best own floor is wins told says = says_right q b moves floor own wins (floor_is q b best floor is.right told) says
+    → floor_told best ≡ Some floor → SaysAbove moves floor own → IsOwnVerdict q b moves best own
+own_right q b moves best own floor is wins told says = ((floor, told, says), says_right q b moves floor own wins (floor_is q b best floor is.right told) says)
 
 -- what is told of a list, or that the searches gave up
 pub own_told : (q : QuestionData) (b : Board) (moves : List Move) (best : Verdict) (own : Option Verdict) → IsBestVerdict q b best → Wins q.game b moves
     → MatchOption own (floor_told best ≡ None) (λ verdict. (floor : ℕ) × (floor_told best ≡ Some floor) × SaysAbove moves floor verdict)
-    → MatchOption own (IsGivingUp best) (IsOwnVerdict q b moves)
+    → MatchOption own (IsGivingUp best) (IsOwnVerdict q b moves best)
 own_told q b moves best None is wins none = gives_up q b moves best is wins none
 own_told q b moves best (Some own) is wins (floor, told, says) = own_right q b moves best own floor is wins told says
 

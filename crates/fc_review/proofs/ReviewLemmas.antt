@@ -1,8 +1,9 @@
 -- What boards along a list, one by one, say of the whole list.
-use Rattle.std.proofs.Common.{inl, inr, ◌≤◌, ◌≡◌, ◌∙◌, ◌⊎◌, ℕ, ◌+◌, Option, Some, None, List, [], ◌∷◌, ◌++◌, length, take, drop, refl, sym, subst, ap, arith}
+use Rattle.std.proofs.Common.{inl, inr, ◌<◌, ◌≤◌, ◌≡◌, ◌∙◌, ◌⊎◌, ℕ, ◌+◌, Option, Some, None, Result, Ok, Err, List, [], ◌∷◌, ◌++◌, length, take, drop, refl, sym, subst, ap, arith}
 use Rattle.fc_position.specs.Position.{IsWon}
 use Rattle.fc_moves.proofs.StepLemmas.{run_once}
-use Rattle.std.specs.Prelude.{Bool, IsTrue, ◌↔◌, IfSome, MatchOption}
+use Rattle.std.specs.Prelude.{All, Bool, Contains, IfOk, IsTrue, ◌↔◌, IsSomeAnd, MatchOption}
+use Rattle.std.proofs.lemmas.List.Elements.{All-contains, All-weaker}
 use Rattle.std.proofs.lemmas.List.{take-append-drop}
 use Rattle.std.proofs.lemmas.Option.{none-some}
 use Rattle.fc_position.specs.Board.{Board}
@@ -13,12 +14,10 @@ use Rattle.fc_answers.specs.declared.answers.Verdict.{Verdict}
 use Rattle.fc_answers.specs.declared.answers.Verdict.TheVariants.{Shortest, Won, CannotWin, GaveUp}
 use Rattle.fc_methods.specs.Method.{QuestionData}
 use Rattle.fc_best.specs.Best.{IsBestVerdict}
-use Rattle.fc_review.specs.Review.{IsBoardAfter, IsKnownAlong, IsLostAfter, IsOpenAfter, IsReview, IsUnsettled, IsWonAfter, Loses, TellsList, first_behind}
+use Rattle.fc_review.specs.Review.{IsAsked, IsBoardAfter, IsFirstLost, IsKnownAlong, IsLastWon, IsLostAfter, IsOpenAfter, IsReview, IsTraceOf, IsUnsettled, IsWonAfter, Loses, SaysAll, TellsList, first_behind}
+use Rattle.fc_review.proofs.SpanLemmas.{all_said}
 use Rattle.fc_review.specs.declared.known_boards.KnownBoard.{KnownBoard}
-use Rattle.fc_review.specs.declared.edges.Edge.{Edge}
-use Rattle.fc_review.specs.declared.edges.Wanted.TheVariants.{List as OfLists, NotLost}
 use Rattle.fc_review.specs.declared.reviews.Review.{Review}
-use Rattle.fc_review.specs.inner.Edge.{IsAsWanted, IsEdge, IsLostBehind, IsNoLoss, IsOpenUpTo}
 
 -- a front of a list that runs does so
 front_runs : (g : GameRules) (b d : Board) (ms ns : List Move) → Run g b (ms ++ ns) d → (c : Board) × Run g b ms c
@@ -43,20 +42,6 @@ open_known : (q : QuestionData) (b : Board) (moves : List Move) (known : KnownBo
     → IsOpenAfter q b moves known.after
 open_known q b moves known told is up = (is.board, is.after, (told, subst (λ v. IsBestVerdict q is.board v) up is.best))
 
--- a verdict that isn't without loss is that none wins
-no_loss : (verdict : Verdict) → (IsNoLoss verdict → ⊥) → verdict ≡ CannotWin
-no_loss (Shortest moves) none = absurd (none tt)
-no_loss (Won moves floor) none = absurd (none tt)
-no_loss CannotWin none = refl
-no_loss (GaveUp told) none = absurd (none tt)
-
--- one that tells no list, and isn't a loss, gave up
-gave_up : (verdict : Verdict) → IsNoLoss verdict → (TellsList verdict → ⊥) → (told : ℕ) × (verdict ≡ GaveUp told)
-gave_up (Shortest moves) fine none = absurd (none tt)
-gave_up (Won moves floor) fine none = absurd (none tt)
-gave_up CannotWin fine none = absurd fine
-gave_up (GaveUp told) fine none = (told, refl)
-
 -- a list that is told wins
 wins_told : (q : QuestionData) (b : Board) (verdict : Verdict) → IsBestVerdict q b verdict → TellsList verdict → (list : List Move) × Wins q.game b list
 wins_told q b (Shortest moves) best told = (moves, best.right.wins)
@@ -64,63 +49,15 @@ wins_told q b (Won moves floor) best told = (moves, best.right.0)
 wins_told q b CannotWin best told = absurd told
 wins_told q b (GaveUp up) best told = absurd told
 
--- a board that isn't lost and from which no list is told gave up
-pub open_up_to : (q : QuestionData) (b : Board) (moves : List Move) (known : KnownBoard) (lost : Option ℕ) → IsKnownAlong q b moves known → IsNoLoss known.verdict
-    → (TellsList known.verdict → ⊥) → IsLostBehind q.game b moves known.after lost → IsOpenUpTo q b moves lost
-open_up_to q b moves known lost is fine none behind =
-    let up = gave_up known.verdict fine none in (known.after, behind, open_known q b moves known up.0 is up.1)
-
--- where lists cease to be told
-edge_won : (q : QuestionData) (b : Board) (moves : List Move) (edge : Edge) (before : Option KnownBoard) → edge.before ≡ before → IsEdge q b moves OfLists edge
-    → IfSome before (IsWonAfter q b moves) × (edge.behind.after ≡ first_behind before)
-edge_won q b moves edge None same is =
-    (tt, subst (λ o. MatchOption o (edge.behind.after ≡ 0) (λ k. IsKnownAlong q b moves k × IsAsWanted OfLists k.verdict × (edge.behind.after ≡ k.after + 1))) same is.before)
-edge_won q b moves edge (Some known) same is =
-    let on = subst (λ o. MatchOption o (edge.behind.after ≡ 0) (λ k. IsKnownAlong q b moves k × IsAsWanted OfLists k.verdict × (edge.behind.after ≡ k.after + 1))) same is.before in
-    ((on.0, on.1), on.2)
-
-pub review_lost : (q : QuestionData) (b : Board) (moves : List Move) (edge : Edge) → IsEdge q b moves OfLists edge → edge.behind.verdict ≡ CannotWin
-    → IsReview q b moves (record { won = edge.before; lost = Some edge.behind.after })
-review_lost q b moves edge is lost =
-    let on = edge_won q b moves edge edge.before refl is in
-    record {
-      won = on.0;
-      lost = lost_known q b moves edge.behind is.behind lost;
-      behind = inl (ap Some on.1);
-      before = inl on.1;
-    }
-
--- the board behind the edge gave up, where it isn't lost
-not_lost : (verdict : Verdict) → (TellsList verdict → ⊥) → (verdict ≡ CannotWin → ⊥) → (told : ℕ) × (verdict ≡ GaveUp told)
-not_lost (Shortest moves) none fine = absurd (none tt)
-not_lost (Won moves floor) none fine = absurd (none tt)
-not_lost CannotWin none fine = absurd (fine refl)
-not_lost (GaveUp told) none fine = (told, refl)
-
-lost_up_to : (q : QuestionData) (b : Board) (moves : List Move) (lost : Option ℕ) → IsOpenUpTo q b moves lost → IfSome lost (IsLostAfter q.game b moves)
-lost_up_to q b moves None up = tt
-lost_up_to q b moves (Some n) (after, (place, lost), up) = lost
-
-before_up_to : (q : QuestionData) (b : Board) (moves : List Move) (won : Option KnownBoard) (lost : Option ℕ) → IsOpenUpTo q b moves lost
-    → MatchOption lost ((first_behind won ≡ length moves + 1) ⊎ IsOpenAfter q b moves (length moves))
-    (λ n. (n ≡ first_behind won) ⊎ ((count : ℕ) × (n ≡ count + 1) × IsOpenAfter q b moves count))
-before_up_to q b moves won None (after, last, up) = inr (subst (IsOpenAfter q b moves) last up)
-before_up_to q b moves won (Some n) (after, (place, lost), up) = inr (after, place, up)
-
-pub review_open : (q : QuestionData) (b : Board) (moves : List Move) (edge : Edge) (lost : Option ℕ) → IsEdge q b moves OfLists edge
-    → (edge.behind.verdict ≡ CannotWin → ⊥) → IsOpenUpTo q b moves lost → IsReview q b moves (record { won = edge.before; lost = lost })
-review_open q b moves edge lost is fine up =
-    let on = edge_won q b moves edge edge.before refl is in
-    let told = not_lost edge.behind.verdict is.turned fine in
-    record {
-      won = on.0;
-      lost = lost_up_to q b moves lost up;
-      behind = inr (inr (subst (IsOpenAfter q b moves) on.1 (open_known q b moves edge.behind told.0 is.behind told.1)));
-      before = before_up_to q b moves edge.before lost up;
-    }
+-- a verdict that tells no list and no loss gave up
+not_lost : (verdict : Verdict) → (TellsList verdict → ⊥) → (verdict ≡ CannotWin) ⊎ ((told : ℕ) × (verdict ≡ GaveUp told))
+not_lost (Shortest moves) none = absurd (none tt)
+not_lost (Won moves floor) none = absurd (none tt)
+not_lost CannotWin none = inl refl
+not_lost (GaveUp told) none = inr (told, refl)
 
 -- the move between a board from which a list wins and a lost one loses
-pub loses : (q : QuestionData) (b : Board) (moves : List Move) (known : KnownBoard) (n : ℕ) → IsWonAfter q b moves known → IsLostAfter q.game b moves n
+loses : (q : QuestionData) (b : Board) (moves : List Move) (known : KnownBoard) (n : ℕ) → IsWonAfter q b moves known → IsLostAfter q.game b moves n
     → n ≡ known.after + 1 → Loses q.game b moves known.after
 loses q b moves known n (is, tells) lost place = record {
   before = is.board;
@@ -129,29 +66,73 @@ loses q b moves known n (is, tells) lost place = record {
   lost = subst (IsLostAfter q.game b moves) place lost;
 }
 
+-- what is known of the last won board and of the first lost one
+won_known : (q : QuestionData) (b : Board) (moves : List Move) (asked : List KnownBoard) (won : KnownBoard) → All (IsKnownAlong q b moves) asked
+    → IsLastWon asked (Some won) → IsWonAfter q b moves won
+won_known q b moves asked won known is = (All-contains (IsKnownAlong q b moves) asked won known is.0.0, is.0.1)
+
+lost_at : (q : QuestionData) (b : Board) (moves : List Move) (asked : List KnownBoard) (lost : ℕ) → All (IsKnownAlong q b moves) asked
+    → IsFirstLost asked (Some lost) → IsLostAfter q.game b moves lost
+lost_at q b moves asked lost known (at, rest) =
+    subst (IsLostAfter q.game b moves) at.2 (lost_known q b moves at.0 (All-contains (IsKnownAlong q b moves) asked at.0 known at.1) at.3)
+
+pub review_loses : (q : QuestionData) (b : Board) (moves : List Move) (review : Review) (won : KnownBoard) (n : ℕ) → review.won ≡ Some won
+    → review.lost ≡ Some n → n ≡ won.after + 1 → IsReview q b moves review → Loses q.game b moves won.after
+review_loses q b moves review won n same-won same-lost next is =
+    loses q b moves won n
+    (won_known q b moves is.asked won is.known (subst (IsLastWon is.asked) same-won is.trace.won))
+    (lost_at q b moves is.asked n is.known (subst (IsFirstLost is.asked) same-lost is.trace.lost)) next
+
 zero_past : (n : ℕ) → 0 ≡ n + 1 → ⊥
 zero_past n same = omega (arith, same)
 
--- it isn't known which move loses, by the board behind the last won one
-at_behind : (q : QuestionData) (b : Board) (moves : List Move) (won : Option KnownBoard) (lost : Option ℕ) → IfSome won (IsWonAfter q b moves)
-    → IfSome lost (IsLostAfter q.game b moves)
-    → (lost ≡ Some (first_behind won)) ⊎ ((first_behind won ≡ length moves + 1) ⊎ IsOpenAfter q b moves (first_behind won))
+-- a lost board right behind the last won one is the first lost one
+next_lost : (asked : List KnownBoard) (count : ℕ) (won : KnownBoard) (lost : Option ℕ) (known : KnownBoard) → IsSomeAnd lost (λ n. n ≤ known.after)
+    → known.after ≡ won.after + 1
+    → MatchOption lost (IsAsked asked count) (λ h. (won.after + 1 ≤ h) × ((h ≡ 0) ⊎ ((last : ℕ) × (h ≡ last + 1) × IsAsked asked last)))
+    → lost ≡ Some (won.after + 1)
+next_lost asked count won None known some same before = absurd some
+next_lost asked count won (Some n) known most same before =
+    let exact : n ≡ won.after + 1 = omega (arith, most, same, before.0) in ap Some exact
+
+-- it isn't known which move loses, by a board behind the last won one that is lost, or gave up
+at_lost : (q : QuestionData) (b : Board) (moves : List Move) (asked : List KnownBoard) (won : Option KnownBoard) (lost : Option ℕ) (k : KnownBoard)
+    → IsTraceOf asked (length moves) (record { won = won; lost = lost }) → IsKnownAlong q b moves k → Contains asked k → k.after ≡ first_behind won → k.verdict ≡ CannotWin
     → ((known : KnownBoard) → won ≡ Some known → lost ≡ Some (known.after + 1) → ⊥) → IsUnsettled q b moves
-at_behind q b moves None lost is none (inl first) fine = inr (inl (subst (λ l. IfSome l (IsLostAfter q.game b moves)) first none))
-at_behind q b moves None lost is none (inr (inl past)) fine = absurd (zero_past (length moves) past)
-at_behind q b moves won lost is none (inr (inr up)) fine = inr (inr (first_behind won, up))
-at_behind q b moves (Some known) lost is none (inl next) fine = absurd (fine known refl next)
-at_behind q b moves (Some known) lost is none (inr (inl last)) fine = inl (known, is, omega (arith, last))
+at_lost q b moves asked None lost k is known there place loss fine =
+    inr (inl (subst (IsLostAfter q.game b moves) place (lost_known q b moves k known loss)))
+at_lost q b moves asked (Some won) lost k is known there place loss fine =
+    let first = All-contains (λ known. known.verdict ≡ CannotWin → IsSomeAnd lost (λ n. n ≤ known.after)) asked k is.lost.1 there loss in
+    absurd (fine won refl (next_lost asked (length moves) won lost k first place is.before))
+
+at_asked : (q : QuestionData) (b : Board) (moves : List Move) (asked : List KnownBoard) (won : Option KnownBoard) (lost : Option ℕ) (k : KnownBoard)
+    → IsTraceOf asked (length moves) (record { won = won; lost = lost }) → IsKnownAlong q b moves k → Contains asked k → k.after ≡ first_behind won
+    → (k.verdict ≡ CannotWin) ⊎ ((told : ℕ) × (k.verdict ≡ GaveUp told))
+    → ((known : KnownBoard) → won ≡ Some known → lost ≡ Some (known.after + 1) → ⊥) → IsUnsettled q b moves
+at_asked q b moves asked won lost k is known there place (inl loss) fine = at_lost q b moves asked won lost k is known there place loss fine
+at_asked q b moves asked won lost k is known there place (inr (told, up)) fine = inr (inr (k.after, open_known q b moves k told known up))
+
+-- no list is told from a board behind the last won one
+past_won : (asked : List KnownBoard) (won : Option KnownBoard) (k : KnownBoard) → IsLastWon asked won → Contains asked k → k.after ≡ first_behind won
+    → TellsList k.verdict → ⊥
+past_won asked won k is there place tells =
+    let before = All-contains (λ known. TellsList known.verdict → known.after < first_behind won) asked k is.1 there tells in omega (arith, before, place)
+
+at_behind : (q : QuestionData) (b : Board) (moves : List Move) (asked : List KnownBoard) (won : Option KnownBoard) (lost : Option ℕ)
+    → All (IsKnownAlong q b moves) asked → IsTraceOf asked (length moves) (record { won = won; lost = lost })
+    → (first_behind won ≡ length moves + 1) ⊎ IsAsked asked (first_behind won)
+    → ((known : KnownBoard) → won ≡ Some known → lost ≡ Some (known.after + 1) → ⊥) → IsUnsettled q b moves
+at_behind q b moves asked None lost known is (inl past) fine = absurd (zero_past (length moves) past)
+at_behind q b moves asked (Some won) lost known is (inl last) fine =
+    inl (won, won_known q b moves asked won known is.won, omega (arith, last))
+at_behind q b moves asked won lost known is (inr (k, there, place)) fine =
+    at_asked q b moves asked won lost k is (All-contains (IsKnownAlong q b moves) asked k known there) there place
+    (not_lost k.verdict (past_won asked won k is.won there place)) fine
 
 -- where it isn't known which move loses
-pub unsettled : (q : QuestionData) (b : Board) (moves : List Move) (review : Review) (won : Option KnownBoard) (lost : Option ℕ) → review.won ≡ won → review.lost ≡ lost
-    → IsReview q b moves review → ((known : KnownBoard) → won ≡ Some known → lost ≡ Some (known.after + 1) → ⊥) → IsUnsettled q b moves
-unsettled q b moves review won lost same-won same-lost is none = at_behind q b moves won lost
-    (subst (λ w. IfSome w (IsWonAfter q b moves)) same-won is.won)
-    (subst (λ l. IfSome l (IsLostAfter q.game b moves)) same-lost is.lost)
-    (subst (λ w. (lost ≡ Some (first_behind w)) ⊎ ((first_behind w ≡ length moves + 1) ⊎ IsOpenAfter q b moves (first_behind w))) same-won
-    (subst (λ l. (l ≡ Some (first_behind review.won)) ⊎ ((first_behind review.won ≡ length moves + 1) ⊎ IsOpenAfter q b moves (first_behind review.won))) same-lost is.behind))
-    none
+pub unsettled : (q : QuestionData) (b : Board) (moves : List Move) (review : Review) → IsReview q b moves review
+    → ((known : KnownBoard) → review.won ≡ Some known → review.lost ≡ Some (known.after + 1) → ⊥) → IsUnsettled q b moves
+unsettled q b moves review is none = at_behind q b moves is.asked review.won review.lost is.known is.trace is.trace.behind none
 
 -- it isn't known, as the last won board isn't the one before the first lost one, or there is none
 after_or : Option KnownBoard → ℕ
@@ -172,17 +153,29 @@ same_count m n same = ap count_or same
 
 pub unsettled_between : (q : QuestionData) (b : Board) (moves : List Move) (review : Review) (won : KnownBoard) (n : ℕ) → review.won ≡ Some won
     → review.lost ≡ Some n → (n ≡ won.after + 1 → ⊥) → IsReview q b moves review → IsUnsettled q b moves
-unsettled_between q b moves review won n same-won same-lost apart is = unsettled q b moves review (Some won) (Some n) same-won same-lost is
-    (λ known same next. apart (same_count n (known.after + 1) next ∙ ap (λ a. a + 1) (sym (same_after won known same))))
+unsettled_between q b moves review won n same-won same-lost apart is = unsettled q b moves review is
+    (λ known same next. apart (same_count n (known.after + 1) (sym same-lost ∙ next) ∙ ap (λ a. a + 1) (same_after known won (sym same ∙ same-won))))
 
 pub unsettled_won : (q : QuestionData) (b : Board) (moves : List Move) (review : Review) (won : KnownBoard) → review.won ≡ Some won → review.lost ≡ None
     → IsReview q b moves review → IsUnsettled q b moves
-unsettled_won q b moves review won same-won same-lost is = unsettled q b moves review (Some won) None same-won same-lost is
-    (λ known same next. none-some (known.after + 1) next)
+unsettled_won q b moves review won same-won same-lost is = unsettled q b moves review is
+    (λ known same next. none-some (known.after + 1) (sym same-lost ∙ next))
 
 pub unsettled_none : (q : QuestionData) (b : Board) (moves : List Move) (review : Review) → review.won ≡ None → IsReview q b moves review
     → IsUnsettled q b moves
-unsettled_none q b moves review same-won is = unsettled q b moves review None review.lost same-won refl is (λ known same next. none-some known same)
+unsettled_none q b moves review same-won is = unsettled q b moves review is (λ known same next. none-some known (sym same-won ∙ same))
+
+-- what is known by the boards along a list that were asked is a review of it
+pub reviewed_by : {J E : Type 0} (P : J → KnownBoard → Type 0) (old new : J) (q : QuestionData) (b : Board) (moves : List Move) (r : Result Review E)
+    → ((known : KnownBoard) → P old known → IsKnownAlong q b moves known)
+    → IfOk r (λ review. (asked : List KnownBoard) × SaysAll (λ o known n. (n ≡ o) × P o known) old asked new × IsTraceOf asked (length moves) review)
+    → IfOk r (IsReview q b moves)
+reviewed_by P old new q b moves (Ok review) along (asked, said, trace) = record {
+  asked = asked;
+  known = All-weaker (P old) (IsKnownAlong q b moves) along asked (all_said P old new asked said);
+  trace = trace;
+}
+reviewed_by P old new q b moves (Err refused) along trace = tt
 
 -- a list wins where the board to which it leads is won
 pub wins_by : (g : GameRules) (b c : Board) (moves : List Move) (t : Bool) → Run g b moves c → (IsTrue t ↔ IsWon c) → IsTrue t ↔ Wins g b moves

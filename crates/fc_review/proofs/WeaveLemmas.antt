@@ -1,11 +1,12 @@
--- Moves home, one by one.
-use Rattle.std.proofs.Common.{◌≡◌, ◌∙◌, ◌⊎◌, inl, inr, ℕ, ◌+◌, ◌<◌, ◌≤◌, Option, Some, None, List, [], ◌∷◌, ◌++◌, length, drop, get_or, refl, sym, subst, ap, arith, length-drop, ⊎_elim}
+-- Lists that are played, with moves home put in.
+use Rattle.std.proofs.Common.{◌≡◌, ◌∙◌, ◌⊎◌, inl, inr, ℕ, ◌+◌, ◌-◌, ◌<◌, ◌≤◌, Option, Some, None, List, [], ◌∷◌, ◌++◌, length, drop, get_or, refl, sym, subst, ap, arith, add-one, drop-cons, length-append, length-drop, ⊎_elim}
 use Rattle.std.specs.Prelude.{All, Contains, IfNone, IfSome, IsSome, slice_set}
 use Rattle.std.proofs.lemmas.Bool.{false≢true, cases_lt}
 use Rattle.std.proofs.lemmas.List.{drop_all, get_or_default}
 use Rattle.std.proofs.lemmas.Option.{none-some}
 use Rattle.std.proofs.lemmas.List.Elements.{All-append, All-cons, All-nil}
 use Rattle.fc_cards.specs.Card.{rank, suit}
+use Rattle.fc_cards.specs.declared.places.Place.{Place}
 use Rattle.fc_cards.specs.declared.places.Place.TheVariants.{Home}
 use Rattle.fc_position.specs.Board.{Board, IsNext, board_without, board_with}
 use Rattle.fc_position.proofs.BoardLemmas.{homes-lifted}
@@ -19,8 +20,10 @@ use Rattle.fc_classes.proofs.PathLemmas.{run_on}
 use Rattle.fc_search.proofs.AnswerLemmas.{run_texts}
 use Rattle.fc_home.proofs.SettleLemmas.{total, total-most, total-next}
 use Rattle.fc_position.specs.Position.{IsWon}
-use Rattle.fc_review.specs.Weaving.{EndsAtHome, IsMoveHome, IsRefusedMove, IsWoven, AllowsNoMoveHome, Weaves, begins, goes_on, sends_home, IsWayHome, MakesWay}
-use Rattle.fc_review.specs.inner.Ways.{SomeMakesWay}
+use Rattle.fc_review.specs.Weaving.{AllowsEntry, EndsAtHome, IsEntryFor, IsHomeBefore, IsMoveHome, IsPlayed, IsRefusedEntry, AllowsNoMoveHome, Thread, Weaves, begins, goes_on, no_moves, passes, sends_home, IsWayHome, MakesWay}
+use Rattle.fc_review.specs.declared.written_entries.Entry.{Entry}
+use Rattle.fc_review.specs.declared.written_entries.Entry.TheVariants.{Card as of_card}
+use Rattle.fc_review.specs.inner.Ways.{IsReady, SomeMakesWay}
 
 -- a move home has one card more home, of 52
 pub home_more : (g : GameRules) (b c : Board) (m : Move) → IsPositionOf g b → IsMoveHome m → Step g b m c
@@ -66,24 +69,74 @@ left_none g b list i None lists all none = λ m home allowed.
     none refl there.0 m (omega (arith, low, all)) (subst IsMoveHome (sym there.2) home)
 left_none g b list i (Some m) lists all none = tt
 
--- a move of the list that isn't allowed, and before which no card can go home
-pub refused_at : (g : GameRules) (b : Board) (list : List Move) (i : ℕ) (m : Move) (moves : List Move) (here : Board) → i < length list
-    → Weaves g b list (m ∷ drop (i + 1) list) moves here → (Allows g here m → ⊥) → Allows g here m ⊎ AllowsNoMoveHome g here → IsRefusedMove g b list (i + 1)
-refused_at g b list i m moves here within woven refused (inl allowed) = absurd (refused allowed)
-refused_at g b list i m moves here within woven refused (inr stuck) = record {
-  m = m;
+-- no move so far takes the card there, nor does this one
+pub met_no_taker : (b : Board) (list : List Move) (i k : ℕ) (card : ℕ) (to : Place) (d e : Move) → i < length list
+    → (IsEntryFor b (of_card card to) (get_or list i e) → ⊥) → ((j : ℕ) (f : Move) → j < i → IsEntryFor b (of_card card to) (get_or list j f) → ⊥)
+    → k < i + 1 → IsEntryFor b (of_card card to) (get_or list k d) → ⊥
+met_no_taker b list i k card to d e within other none below is =
+    ⊎_elim (λ less. none k d less is)
+    (λ more.
+    let last : k ≡ i = omega (arith, below, more) in
+    let same : get_or list k d ≡ get_or list i e = get_or_default list k d e (omega (arith, last, within)) ∙ ap (λ n. get_or list n e) last in
+    other (subst (IsEntryFor b (of_card card to)) same is))
+    (cases_lt k i)
+
+-- no allowed move does
+pub none_takes : (g : GameRules) (b : Board) (list : List Move) (i : ℕ) (card : ℕ) (to : Place) → ListsMoves g b list → length list ≤ i
+    → ((j : ℕ) (d : Move) → j < i → IsEntryFor b (of_card card to) (get_or list j d) → ⊥) → AllowsEntry g b (of_card card to) → ⊥
+none_takes g b list i card to lists all none (m, is, allowed) =
+    let there = lists.complete m allowed in
+    let low = there.1 in
+    none there.0 m (omega (arith, low, all)) (subst (IsEntryFor b (of_card card to)) (sym there.2) is)
+
+-- no move so far goes home, nor does this one
+pub met_no_home : (list : List Move) (i k : ℕ) (d e : Move) → i < length list → (IsMoveHome (get_or list i e) → ⊥)
+    → ((j : ℕ) (f : Move) → j < i → IsMoveHome (get_or list j f) → ⊥) → k < i + 1 → IsMoveHome (get_or list k d) → ⊥
+met_no_home list i k d e within other none below is =
+    ⊎_elim (λ less. none k d less is)
+    (λ more.
+    let last : k ≡ i = omega (arith, below, more) in
+    let same : get_or list k d ≡ get_or list i e = get_or_default list k d e (omega (arith, last, within)) ∙ ap (λ n. get_or list n e) last in
+    other (subst IsMoveHome same is))
+    (cases_lt k i)
+
+-- no allowed move does
+pub none_goes : (g : GameRules) (b : Board) (list : List Move) (i : ℕ) → ListsMoves g b list → length list ≤ i
+    → ((j : ℕ) (d : Move) → j < i → IsMoveHome (get_or list j d) → ⊥) → AllowsNoMoveHome g b
+none_goes g b list i lists all none = λ m home allowed.
+    let there = lists.complete m allowed in
+    let low = there.1 in
+    none there.0 m (omega (arith, low, all)) (subst IsMoveHome (sym there.2) home)
+
+-- an entry of the list that isn't allowed or passed over, and before which no card can go home
+pub refused_at : (g : GameRules) (b : Board) (list : List Entry) (i : ℕ) (e : Entry) (t : Thread) (here : Board) → i < length list
+    → Weaves g b list (e ∷ drop (i + 1) list) t here → (AllowsEntry g here e → ⊥) → (IsHomeBefore here e → ⊥) → IsReady g here e ⊎ AllowsNoMoveHome g here
+    → IsRefusedEntry g b list (i + 1)
+refused_at g b list i e t here within woven refused needed (inl (inl passed)) = absurd (needed passed)
+refused_at g b list i e t here within woven refused needed (inl (inr allowed)) = absurd (refused allowed)
+refused_at g b list i e t here within woven refused needed (inr stuck) = record {
+  e = e;
   rest = drop (i + 1) list;
-  moves = moves;
+  front = t;
   here = here;
   woven = woven;
   refused = refused;
+  needed = needed;
   stuck = stuck;
   place = let size = length-drop (i + 1) list in omega (arith, size, within);
 }
 
--- before the first move
-pub begins_at : (g : GameRules) (b : Board) (list moves : List Move) (here : Board) → moves ≡ [] → here ≡ b → Weaves g b list list moves here
-begins_at g b list moves here none same = subst (λ l. Weaves g b list list l here) (sym none) (subst (λ c. Weaves g b list list [] c) (sym same) begins)
+-- the next entry, and those behind it
+pub entries_at : (list : List Entry) (i : ℕ) (e : Entry) → i < length list → e ≡ get_or list i e → drop i list ≡ e ∷ drop (i + 1) list
+entries_at list i e within is =
+    let next : drop i list ≡ get_or list i e ∷ drop (i + 1) list = rw (add-one, drop-cons list i e) in
+    next ∙ ap (λ x. x ∷ drop (i + 1) list) (sym is)
+
+-- before the first entry
+pub begins_at : (g : GameRules) (b : Board) (list : List Entry) (moves : List Move) (here : Board) → moves ≡ [] → here ≡ b
+    → Weaves g b list list (record { moves = moves; listed = 0 }) here
+begins_at g b list moves here none same =
+    subst (λ l. Weaves g b list list (record { moves = l; listed = 0 }) here) (sym none) (subst (λ c. Weaves g b list list no_moves c) (sym same) begins)
 
 -- the chosen move stays one home that is allowed
 pub chosen_on : (g : GameRules) (b : Board) (before result : Option Move) (m : Move) → Allows g b m
@@ -97,12 +150,24 @@ pub is_in : (all list : List Move) (i : ℕ) (d : Move) → all ≡ list → i <
 is_in all list i d same below = subst (λ l. Contains l (get_or all i d)) same (i, below, get_or_default all i (get_or all i d) d below)
 
 -- what is woven runs
-weaves_run : (g : GameRules) (b : Board) (list rest moves : List Move) (c : Board) → Weaves g b list rest moves c → Run g b moves c
-weaves_run g b list rest moves c begins = refl
-weaves_run g b list rest moves d (goes_on m rest' before c d' woven step) =
-    run_on g b c d before (m ∷ []) (weaves_run g b list (m ∷ rest) before c woven) (d, step, refl)
-weaves_run g b list rest moves d (sends_home m home rest' before c d' woven refused goes step) =
-    run_on g b c d before (home ∷ []) (weaves_run g b list rest before c woven) (d, step, refl)
+weaves_run : (g : GameRules) (b : Board) (list rest : List Entry) (t : Thread) (c : Board) → Weaves g b list rest t c → Run g b t.moves c
+weaves_run g b list rest t c begins = refl
+weaves_run g b list rest t d (goes_on e m rest' before c d' woven is step) =
+    run_on g b c d before.moves (m ∷ []) (weaves_run g b list (e ∷ rest) before c woven) (d, step, refl)
+weaves_run g b list rest t c (passes e rest' before c' woven passed) = weaves_run g b list (e ∷ rest) t c woven
+weaves_run g b list rest t d (sends_home e home rest' before c d' woven refused needed goes step) =
+    run_on g b c d before.moves (home ∷ []) (weaves_run g b list rest before c woven) (d, step, refl)
+
+-- no more moves are listed than there are
+pub weaves_listed : (g : GameRules) (b : Board) (list rest : List Entry) (t : Thread) (c : Board) → Weaves g b list rest t c → t.listed ≤ length t.moves
+weaves_listed g b list rest t c begins = omega arith
+weaves_listed g b list rest t d (goes_on e m rest' before c d' woven is step) =
+    let so = weaves_listed g b list (e ∷ rest) before c woven in
+    let size = length-append before.moves (m ∷ []) in omega (arith, so, size)
+weaves_listed g b list rest t c (passes e rest' before c' woven passed) = weaves_listed g b list (e ∷ rest) t c woven
+weaves_listed g b list rest t d (sends_home e home rest' before c d' woven refused needed goes step) =
+    let so = weaves_listed g b list rest before c woven in
+    let size = length-append before.moves (home ∷ []) in omega (arith, so, size)
 
 -- moves home that are kept run
 kept_run : (g : GameRules) (b : Board) (homes all : List Move) (end : Board) → Run g b all end
@@ -113,29 +178,38 @@ kept_run g b homes all end run (inr (lost, none)) = (b, subst (λ l. Run g b l b
 ended_run : (g : GameRules) (b : Board) (homes : List Move) → EndsAtHome g b homes → (c : Board) × Run g b homes c
 ended_run g b homes ended = kept_run g b homes ended.all ended.end ended.run ended.kept
 
-pub woven_run : (g : GameRules) (b : Board) (list moves : List Move) → IsWoven g b list moves → (c : Board) × Run g b moves c
-woven_run g b list moves woven =
-    let ended = woven.ended in
-    let run = ended_run g woven.here woven.homes ended in
-    (run.0, subst (λ l. Run g b l run.0) (sym woven.parts) (run_on g b woven.here run.0 woven.front woven.homes (weaves_run g b list [] woven.front woven.here woven.woven) run.1))
+pub played_run : (g : GameRules) (b : Board) (list : List Entry) (moves : List Move) (inserted : ℕ) → IsPlayed g b list moves inserted
+    → (c : Board) × Run g b moves c
+played_run g b list moves inserted played =
+    let run = ended_run g played.here played.homes played.ended in (
+      run.0,
+      subst (λ l. Run g b l run.0) (sym played.parts)
+          (run_on g b played.here run.0 played.front.moves played.homes (weaves_run g b list [] played.front played.here played.woven) run.1),
+    )
 
-pub woven_texts : (g : GameRules) (b : Board) (list moves : List Move) → IsPositionOf g b → IsWoven g b list moves → All HasText moves
-woven_texts g b list moves p woven = let run = woven_run g b list moves woven in run_texts g b run.0 moves p run.1
+pub played_texts : (g : GameRules) (b : Board) (list : List Entry) (moves : List Move) (inserted : ℕ) → IsPositionOf g b → IsPlayed g b list moves inserted
+    → All HasText moves
+played_texts g b list moves inserted p played = let run = played_run g b list moves inserted played in run_texts g b run.0 moves p run.1
 
--- all of a list is woven, and what is behind it
-pub woven_at : (g : GameRules) (b : Board) (list front homes part moves : List Move) (here : Board) (i : ℕ) → length list ≤ i
-    → Weaves g b list (drop i list) front here → EndsAtHome g here homes → moves ≡ front ++ part → part ≡ homes → IsWoven g b list moves
-woven_at g b list front homes part moves here i all woven ended parts same = record {
-  front = front;
-  homes = homes;
-  here = here;
-  parts = parts ∙ ap (λ l. front ++ l) same;
-  woven = subst (λ l. Weaves g b list l front here) (drop_all i list all) woven;
-  ended = ended;
-}
+-- all of a list is played, and what is behind it
+pub played_at : (g : GameRules) (b : Board) (list : List Entry) (front homes part moves : List Move) (listed inserted : ℕ) (here : Board) (i : ℕ) → length list ≤ i
+    → Weaves g b list (drop i list) (record { moves = front; listed = listed }) here → EndsAtHome g here homes → moves ≡ front ++ part → part ≡ homes
+    → inserted ≡ length moves - listed → IsPlayed g b list moves inserted
+played_at g b list front homes part moves listed inserted here i all woven ended parts same count =
+    let few = weaves_listed g b list (drop i list) (record { moves = front; listed = listed }) here woven in
+    let size : length moves ≡ length front + length part = ap length parts ∙ length-append front part in
+    record {
+      front = record { moves = front; listed = listed };
+      homes = homes;
+      here = here;
+      parts = parts ∙ ap (λ l. front ++ l) same;
+      count = omega (arith, few, size, count);
+      woven = subst (λ l. Weaves g b list l (record { moves = front; listed = listed }) here) (drop_all i list all) woven;
+      ended = ended;
+    }
 
 -- where a move home among those so far makes way, the chosen one does
-pub way_on : (g : GameRules) (b : Board) (list : List Move) (i k : ℕ) (before result : Option Move) (d e w : Move) → i < length list
+pub way_on : (g : GameRules) (b : Board) (list : List Move) (i k : ℕ) (before result : Option Move) (d e : Move) (w : Entry) → i < length list
     → (SomeMakesWay g b before w ⊎ (IsMoveHome (get_or list i e) × MakesWay g b (get_or list i e) w)
     → SomeMakesWay g b result w)
     → ((j : ℕ) (f : Move) → j < i → IsMoveHome (get_or list j f) → MakesWay g b (get_or list j f) w → SomeMakesWay g b before w)
@@ -149,7 +223,7 @@ way_on g b list i k before result d e w within next so below goes makes =
     (cases_lt k i)
 
 -- where any move home makes way, the chosen one does
-pub way_left : (g : GameRules) (b : Board) (list : List Move) (i : ℕ) (chosen : Option Move) (w : Move) → ListsMoves g b list → length list ≤ i
+pub way_left : (g : GameRules) (b : Board) (list : List Move) (i : ℕ) (chosen : Option Move) (w : Entry) → ListsMoves g b list → length list ≤ i
     → IfSome chosen (λ m. IsMoveHome m × Allows g b m)
     → ((j : ℕ) (f : Move) → j < i → IsMoveHome (get_or list j f) → MakesWay g b (get_or list j f) w → SomeMakesWay g b chosen w)
     → IfSome chosen (IsWayHome g b w)

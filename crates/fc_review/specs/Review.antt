@@ -1,5 +1,5 @@
 -- What is known of the boards along a list of moves: from which of them a list wins, and from which none does.
-use Rattle.std.specs.Prelude.{◌≡◌, ◌⊎◌, ℕ, ◌+◌, ◌≤◌, List, length, take, Option, Some, None, IfSome, MatchOption}
+use Rattle.std.specs.Prelude.{◌≡◌, ◌⊎◌, ℕ, ◌+◌, ◌<◌, ◌≤◌, List, [], ◌∷◌, length, take, All, Contains, Option, Some, None, IfSome, IsSomeAnd, MatchOption}
 use Rattle.fc_position.specs.Board.{Board}
 use Rattle.fc_moves.specs.declared.steps.Move.{Move}
 use Rattle.fc_moves.specs.GameRules.{GameRules}
@@ -46,24 +46,41 @@ abbrev pub first_behind : Option KnownBoard → ℕ
 first_behind None = 0
 first_behind (Some won) = won.after + 1
 
--- the board behind the last one from which a list is told: it is the first lost one; or there is none; or its searches gave up
-abbrev pub IsSettledBehind : QuestionData → Board → List Move → Review → Type 0
-IsSettledBehind q b moves review = (review.lost ≡ Some (first_behind review.won)) ⊎ ((first_behind review.won ≡ length moves + 1)
-    ⊎ IsOpenAfter q b moves (first_behind review.won))
+module _ {J : Type 0} where
+  -- one who knows boards says these, one after the other, and each time becomes what saying that makes of it
+  abbrev pub SaysAll : (J → KnownBoard → J → Type 0) → J → List KnownBoard → J → Type 0
+  SaysAll says old [] new = new ≡ old
+  SaysAll says old (known ∷ later) new = (mid : J) × says old known mid × SaysAll says mid later new
 
--- the board before the first lost one, or the last board where none is lost: a list is told from it; or its searches gave up
-abbrev pub IsSettledBefore : QuestionData → Board → List Move → Review → Type 0
-IsSettledBefore q b moves review = MatchOption review.lost
-    ((first_behind review.won ≡ length moves + 1) ⊎ IsOpenAfter q b moves (length moves))
-    (λ lost. (lost ≡ first_behind review.won) ⊎ ((count : ℕ) × (lost ≡ count + 1) × IsOpenAfter q b moves count))
+-- the board after so many moves was asked
+abbrev pub IsAsked : List KnownBoard → ℕ → Type 0
+IsAsked asked count = (known : KnownBoard) × Contains asked known × (known.after ≡ count)
 
--- a list that is told wins from the last won board, where there is one; none wins from the first lost one, where there is one; and
--- boards that are neither lie between them only where searches gave up
+-- of the boards that were asked, it is the last one from which a list is told; without one, none tells a list
+abbrev pub IsLastWon : List KnownBoard → Option KnownBoard → Type 0
+IsLastWon asked won = IfSome won (λ last. Contains asked last × TellsList last.verdict)
+    × All (λ known. TellsList known.verdict → known.after < first_behind won) asked
+
+-- and so many moves lead to the first one from which none wins; without that, none is lost
+abbrev pub IsFirstLost : List KnownBoard → Option ℕ → Type 0
+IsFirstLost asked lost = IfSome lost (λ count. (known : KnownBoard) × Contains asked known × (known.after ≡ count) × (known.verdict ≡ CannotWin))
+    × All (λ known. known.verdict ≡ CannotWin → IsSomeAnd lost (λ count. count ≤ known.after)) asked
+
+-- along a list of so many moves, of the boards that were asked, the review has the last won one and the first lost one, which is
+-- behind it; those that were asked between them gave up, and among these are the one right behind the won one and the one right
+-- before the lost one, or the last board of all
+pub record IsTraceOf (asked : List KnownBoard) (count : ℕ) (review : Review) : Type 0 where
+  pub won : IsLastWon asked review.won
+  pub lost : IsFirstLost asked review.lost
+  pub behind : (first_behind review.won ≡ count + 1) ⊎ IsAsked asked (first_behind review.won)
+  pub before : MatchOption review.lost (IsAsked asked count)
+      (λ lost. (first_behind review.won ≤ lost) × ((lost ≡ 0) ⊎ ((last : ℕ) × (lost ≡ last + 1) × IsAsked asked last)))
+
+-- best verdicts of boards along the list were asked for, and the review is what is known by these
 pub record IsReview (q : QuestionData) (b : Board) (moves : List Move) (review : Review) : Type 0 where
-  pub won : IfSome review.won (IsWonAfter q b moves)
-  pub lost : IfSome review.lost (IsLostAfter q.game b moves)
-  pub behind : IsSettledBehind q b moves review
-  pub before : IsSettledBefore q b moves review
+  pub asked : List KnownBoard
+  pub known : All (IsKnownAlong q b moves) asked
+  pub trace : IsTraceOf asked (length moves) review
 
 -- the move behind so many loses: some list wins from the board before it, and none from the board after it
 pub record Loses (g : GameRules) (b : Board) (moves : List Move) (count : ℕ) : Type 0 where

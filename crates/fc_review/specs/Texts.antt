@@ -1,5 +1,5 @@
 -- What is told of a list of moves, on a line.
-use Rattle.std.specs.Prelude.{ℕ, ◌+◌, Bool, cond, nat_eq, nat_lt, List, length, ◌++◌, Option, Some, None, codes, decimal}
+use Rattle.std.specs.Prelude.{ℕ, ◌+◌, cond, nat_eq, nat_lt, List, length, ◌++◌, Option, Some, None, codes, decimal}
 use Rattle.fc_answers.specs.declared.answers.Verdict.{Verdict}
 use Rattle.fc_answers.specs.declared.answers.Verdict.TheVariants.{Shortest, Won, CannotWin, GaveUp}
 use Rattle.fc_review.specs.declared.known_boards.KnownBoard.{KnownBoard}

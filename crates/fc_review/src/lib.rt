@@ -4,17 +4,21 @@
 
 pub use findings::{Finding, find, finding_text, run_review};
 pub use hands::count_by_hand;
+pub use judges::{Judge, trace};
 pub use known_boards::{KnownBoard, board_after, known_after, wins};
 pub use ratings::{Rating, rate};
 pub use review_lines::{rating_status, rating_text, review_status, review_text};
 pub use reviews::{Review, review_of};
-pub use weaving::{WeaveFault, weave};
+pub use weaving::{WeaveFault, Woven, weave, weave_entries};
+pub use written_entries::Entry;
 
-mod edges;
 mod findings;
 mod hands;
+mod judges;
 mod known_boards;
 mod ratings;
 mod review_lines;
 mod reviews;
+mod spans;
 mod weaving;
+mod written_entries;

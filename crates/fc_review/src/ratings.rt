@@ -8,8 +8,7 @@ ghost use Rattle.fc_answers.specs.declared.answers.TheConstants.{MOST_MOVES};
 ghost use Rattle.fc_answers.specs.Verdict.{HasFewMoves};
 ghost use Rattle.fc_best.specs.Watch.{floor_told};
 ghost use Rattle.fc_board_runs.specs.Devices.{IsHandedBack, change, lent};
-ghost use Rattle.fc_review.specs.Rating.{IsRating, IsUnrated};
-ghost use Rattle.fc_review.specs.inner.Own.{SaysAbove};
+ghost use Rattle.fc_review.specs.Rating.{IsRating, IsUnrated, SaysAbove};
 
 use fc_answers::{Answer, MoveList, Verdict};
 use fc_best::{Unheard, best};
@@ -102,7 +101,7 @@ pub(crate) fn certify<G: Game + Drop, C: Sink>(
         verdict: own,
         table,
     };
-    let Ok(()) = write_certificate(question.game(), &answer, cert) else {
+    let Ok(_) = write_certificate(question.game(), &answer, cert) else {
         return Err(ProgramFault::Write(Output::Cert));
     };
     Ok(Rating {

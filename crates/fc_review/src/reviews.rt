@@ -6,14 +6,11 @@ ghost use Rattle.fc_moves.specs.GameRules.{IsPositionOf};
 ghost use Rattle.fc_moves.specs.Run.{Run};
 ghost use Rattle.fc_methods.specs.Method.{QuestionData};
 ghost use Rattle.fc_moves.specs.declared.steps.Move.{Move};
-ghost use Rattle.fc_review.specs.Review.{IsKnownAlong, IsReview, IsUnsettled, Loses};
+ghost use Rattle.fc_review.specs.Review.{IsReview, IsUnsettled, Loses};
 ghost use Rattle.fc_review.specs.Texts.{losing_of};
-ghost use Rattle.fc_review.specs.inner.Edge.{IsEdge, IsLostBehind, IsNoLoss, IsOpenUpTo};
-ghost use Rattle.fc_review.specs.declared.edges.Wanted.TheVariants as wanted;
 
-use crate::edges::{Edge, Wanted, Way, edge_before};
+use crate::judges::{Judge, trace};
 use crate::known_boards::{KnownBoard, known_after};
-use fc_answers::Verdict;
 use fc_methods::Question;
 use fc_moves::{Game, Move};
 use fc_position::Position;
@@ -43,9 +40,9 @@ impl Review {
     }
 }
 
-/// Where a list of moves that the rules allow from a position of the question's game loses: the last board from which a list is
-/// told that wins, and the first one from which none does, each by the best verdict within the question's budget. Boards between
-/// them gave up, as far as they were asked. Lost boards stay lost, so it is found by halving.
+/// Where a list of moves that the rules allow from a position of the question's game loses: of the boards that are asked, the last one
+/// from which a list is told that wins, and the first one from which none does, each by the best verdict within the question's
+/// budget. Those that are asked between the two gave up. Lost boards stay lost, so it is found by halving.
 ///
 /// # Errors
 /// A growth was refused.
@@ -59,53 +56,36 @@ pub fn review_of<G: Game + Drop>(
     requires run { (c : Board) × Run question.now.game start.now moves.now c }
     ensures review { IfOk result (IsReview question.now start.now moves.now) }
 {
-    let way = Way { start, moves };
-    let last = known_after(alloc, question, start, moves, moves.len())?;
-    if Wanted::NotLost.holds(&last.verdict) {
-        return won_up_to(alloc, question, way, last, None);
-    }
-    let Edge { before, behind } = edge_before(alloc, question, way, Wanted::NotLost, last)?;
-    let lost = Some(behind.after);
-    match before {
-        Some(known) => won_up_to(alloc, question, way, known, lost),
-        None => Ok(Review { won: None, lost }),
-    }
-}
-
-// The review of a list up to a board that isn't lost, behind which the next one is, or which is the last one.
-fn won_up_to<G: Game + Drop>(
-    alloc: Global,
-    question: &Question<G>,
-    way: Way<'_>,
-    known: KnownBoard,
-    lost: Option<usize>,
-) -> Result<Review, AllocError>
-    requires position { IsPositionOf question.now.game way.start.now }
-    requires run { (c : Board) × Run question.now.game way.start.now way.moves.now c }
-    requires known { IsKnownAlong question.now way.start.now way.moves.now known }
-    requires no_loss { IsNoLoss known.verdict }
-    requires lost { IsLostBehind question.now.game way.start.now way.moves.now known.after lost }
-    ensures review { IfOk result (IsReview question.now way.entry.start.now way.entry.moves.now) }
-{
-    if Wanted::List.holds(&known.verdict) {
-        return Ok(Review {
-            won: Some(known),
-            lost,
-        });
-    }
-    let edge = edge_before(alloc, question, way, Wanted::List, known)?;
-    Ok(review_at(edge, lost))
-}
-
-// The review of a list by where lists cease to be told, before a board that gave up, and by what is behind that.
-fn review_at(edge: Edge, lost: Option<usize>) -> Review
-    ensures review { (q : QuestionData) (b : Board) (moves : List Move) → IsEdge q b moves wanted.List edge → IsOpenUpTo q b moves lost
-        → IsReview q b moves result }
-{
-    let Edge { before, behind } = edge;
-    let lost = match behind.verdict {
-        Verdict::CannotWin => Some(behind.after),
-        _ => lost,
+    let mut way = Way {
+        alloc,
+        question,
+        start,
+        moves,
     };
-    Review { won: before, lost }
+    trace(&mut way, moves.len())
+}
+
+// The boards along a list of moves, by their best verdicts.
+#[derive(Drop)]
+struct Way<'a, G: Game + Drop> {
+    alloc: Global,
+    question: &'a Question<G>,
+    start: &'a Position,
+    moves: &'a [Move],
+}
+
+impl<G: Game + Drop> Judge for Way<'_, G> {
+    ghost use Rattle.std.specs.Prelude.{◌≡◌, ◌≤◌, length};
+    ghost use Rattle.fc_position.specs.Board.{Board};
+    ghost use Rattle.fc_moves.specs.GameRules.{IsPositionOf};
+    ghost use Rattle.fc_moves.specs.Run.{Run};
+    ghost use Rattle.fc_review.specs.Review.{IsKnownAlong};
+
+    ghost can = { λ way n. IsPositionOf way.question.now.game way.start.now × ((c : Board) × Run way.question.now.game way.start.now way.moves.now c) × (n ≤ length way.moves.now) };
+
+    ghost says = { λ old known new. (new ≡ old) × IsKnownAlong old.question.now old.start.now old.moves.now known };
+
+    fn judge(&mut self, after: usize) -> Result<KnownBoard, AllocError> {
+        known_after(self.alloc, self.question, self.start, self.moves, after)
+    }
 }

@@ -3,8 +3,7 @@ use Rattle.std.specs.Prelude.{MatchOption}
 use Rattle.fc_best.specs.Watch.{floor_told}
 use Rattle.fc_board_runs.specs.Devices.{change}
 use Rattle.fc_search.specs.Problem.{problem_of}
-use Rattle.fc_review.specs.Rating.{IsGivingUp, IsOwnVerdict}
-use Rattle.fc_review.specs.inner.Own.{SaysAbove}
+use Rattle.fc_review.specs.Rating.{IsGivingUp, IsOwnVerdict, SaysAbove}
 use Rattle.fc_review.proofs.RatingLemmas.{own_certifiable, own_right, own_told}
 use Rattle.fc_review.proofs.ratings.certify.Goals as goal
 
@@ -17,7 +16,7 @@ returns-in_default-clause-rated g c =
     let told = c.in_ok-verdict.ensures.best.told in
     record {
       best = told;
-      own = subst (λ o. MatchOption o (IsGivingUp best) (IsOwnVerdict q b moves)) c.in_default.is
+      own = subst (λ o. MatchOption o (IsGivingUp best) (IsOwnVerdict q b moves best)) c.in_default.is
           (own_told q b moves best c.in_ok-own.field-0 told c.requires.wins c.in_ok-own.ensures.own);
       certified = search rules;
     }
@@ -34,7 +33,9 @@ returns-in_default-write_certificate-clause-fault g c =
     c.in-Some.is c.in_ok-own.ensures.own in
     let certifiable = own_certifiable q b moves answer own says.0 best (c.in_ok-verdict.ensures.backed refl) c.requires.wins c.requires.texts c.requires.few
     says.1 says.2 in (
+      answer.verdict,
       own,
+      best.told,
       own_right q b moves answer.verdict own says.0 best.told c.requires.wins says.1 says.2,
       (
         change g.C.Sink.held g.C.Sink.has_failed c.args.cert.now c.write_certificate.new.cert,

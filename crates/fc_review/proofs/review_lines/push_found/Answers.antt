@@ -1,4 +1,4 @@
-use Rattle.std.proofs.Common.{◌≡◌, ◌+◌, ◌++◌, ℕ, List, codes, decimal}
+use Rattle.std.proofs.Common.{codes, decimal}
 use Rattle.fc_review.proofs.GlueLemmas.{glue}
 use Rattle.fc_review.proofs.review_lines.push_found.Goals as goal
 

@@ -1,4 +1,4 @@
-use Rattle.std.proofs.Common.{◌≡◌, ◌+◌, ◌++◌, ℕ, List, codes, decimal}
+use Rattle.std.proofs.Common.{◌++◌, codes, decimal}
 use Rattle.fc_review.specs.Texts.{list_phrase}
 use Rattle.fc_review.proofs.GlueLemmas.{glue}
 use Rattle.fc_review.proofs.review_lines.push_up_to.Goals as goal

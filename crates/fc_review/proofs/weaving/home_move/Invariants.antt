@@ -1,16 +1,8 @@
-use Rattle.std.proofs.Common.{◌≡◌, ◌<◌, ℕ, Some, None, get_or}
-use Rattle.std.specs.Prelude.{IfSome}
+use Rattle.std.proofs.Common.{◌<◌, ℕ, get_or}
 use Rattle.fc_moves.specs.declared.steps.Move.{Move}
-use Rattle.fc_moves.specs.Step.{Allows}
-use Rattle.fc_review.specs.Weaving.{IsMoveHome, MakesWay}
-use Rattle.fc_review.specs.inner.Ways.{SomeMakesWay}
+use Rattle.fc_review.specs.Weaving.{IsMoveHome}
 use Rattle.fc_review.proofs.weaving.home_move.Given as goal
 
--- the chosen move is one home that is allowed; where there is none, none so far goes home; and it makes way where one of them does
+-- no move so far goes home
 abbrev pub invariant-loop-m : goal.invariant-loop-m
-invariant-loop-m g l = record {
-  some : IfSome l.chosen (λ m. IsMoveHome m × Allows (g.G.Game.game l.game) l.position m);
-  way : (w : Move) → l.wanted ≡ Some w → (j : ℕ) (f : Move) → j < l.m-index → IsMoveHome (get_or l.m-items j f)
-      → MakesWay (g.G.Game.game l.game) l.position (get_or l.m-items j f) w → SomeMakesWay (g.G.Game.game l.game) l.position l.chosen w;
-  none : l.chosen ≡ None → (j : ℕ) (f : Move) → j < l.m-index → IsMoveHome (get_or l.m-items j f) → ⊥;
-}
+invariant-loop-m g l = (j : ℕ) (d : Move) → j < l.m-index → IsMoveHome (get_or l.m-items j d) → ⊥
