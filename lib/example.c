@@ -35,8 +35,11 @@ int main(int count, char **words) {
     printf("kept: %u, %s\n", call.status, kept.len == text_len && !memcmp(kept.bytes, text, text_len) ? "the same text" : "another text");
     printf("%s\n", kept_certificate.len == certificate_len && !memcmp(kept_certificate.bytes, certificate, certificate_len)
                        ? "the same certificate" : "another certificate");
-    luffaknife_free(kept);
-    luffaknife_free(kept_certificate);
+    luffaknife_free(&kept);
+    luffaknife_free(&kept_certificate);
+    call = luffaknife_keep_best(FREE_CELL, 0, board, board_len, &kept);
+    printf("refused, and freed again: %u, %zu bytes\n", call.status, kept.len);
+    luffaknife_free(&kept);
 
     uint8_t *list = memchr(text, '\n', text_len);
     size_t list_len = list ? text_len - (size_t)(list - text) : 0;

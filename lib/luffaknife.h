@@ -115,13 +115,15 @@ struct luffaknife_bytes {
     size_t len;
 };
 
-/* Such a struct holds these before a call that takes it, or what an earlier call left. */
+/* Such a struct holds these before a call that takes it: what an earlier call left there is freed first, or it is lost. */
 #define LUFFAKNIFE_NO_BYTES {(const uint8_t *)"", 0}
 
-/* Frees them. */
-static inline void luffaknife_free(struct luffaknife_bytes kept) {
-    if (kept.len)
-        free((void *)kept.bytes);
+/* Frees them, and leaves LUFFAKNIFE_NO_BYTES there: the struct may be handed in again, or freed again. */
+static inline void luffaknife_free(struct luffaknife_bytes *kept) {
+    if (kept->len)
+        free((void *)kept->bytes);
+    kept->bytes = (const uint8_t *)"";
+    kept->len = 0;
 }
 
 /* The columns of a numbered deal, a line each: 200 bytes at most. It is a board's text. */
