@@ -26,27 +26,30 @@ pub fn read_list(rt: &HostRuntime, path: &str, input: Input) -> Result<Vec<u8>, 
     }
 }
 
-/// The text of the board in a list that stands behind so many others; what has nothing but blanks is no board.
-pub fn board_behind(list: &[u8], before: u64) -> Option<&[u8]> {
+/// The text of the board in a list that stands behind so many others, and how many lines stand above it; what has nothing but blanks
+/// is no board.
+pub fn board_behind(list: &[u8], before: u64) -> Option<(&[u8], u32)> {
     let (mut begin, mut next, mut left) = (0usize, 0usize, before);
+    let (mut above, mut number) = (0u32, 0u32);
     for line in list.split(|byte| *byte == b'\n') {
         let end = next;
         next = next.saturating_add(line.len()).saturating_add(1);
+        number = number.saturating_add(1);
         if !is_rule(line) {
             continue;
         }
-        let text = list.get(begin..end)?;
-        begin = next;
+        let (text, lines) = (list.get(begin..end)?, above);
+        (begin, above) = (next, number);
         if is_blank(text) {
             continue;
         }
         if left == 0 {
-            return Some(text);
+            return Some((text, lines));
         }
         left -= 1;
     }
     let text = list.get(begin..)?;
-    (left == 0 && !is_blank(text)).then_some(text)
+    (left == 0 && !is_blank(text)).then_some((text, above))
 }
 
 /// Whether a line parts boards: three dashes or more, and blanks.

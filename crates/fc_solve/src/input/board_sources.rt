@@ -4,7 +4,9 @@ ghost use Rattle.fc_position.specs.Position.{Fits};
 
 use crate::input::apart::INPUT;
 use crate::input::board_lists::{board_behind, read_list};
-use crate::input::column_lengths::{note_lengths, note_reversed, note_rows};
+use crate::input::column_lengths::{
+    note_in_columns, note_in_rows, note_lengths, note_reversed, note_rows, note_short_rows,
+};
 use crate::output::endings::{
     Ending, REFUSED, tell_of_board, tell_of_file, tell_of_length, tell_of_reading, tell_of_row_text,
 };
@@ -165,7 +167,7 @@ fn read_listed(
 {
     let list = read_list(rt, listed.path, Input::Board)?;
     match board_behind(list.as_slice(), listed.place.saturating_sub(1)) {
-        Some(text) => read_board_text(rt, text, words, cells),
+        Some((text, above)) => read_board_below(rt, text, above, words, cells),
         None => {
             let name = listed.name;
             let _told = eprintln!(rt; "fc_solve: {name}: the file has no such board");
@@ -188,6 +190,8 @@ struct TypedText {
     typed: ArrayVec<u8, MOST_BYTES>,
     tidy: TidyText,
     title: Option<Title>,
+    // How many lines of its file stand above it.
+    above: u32,
 }
 
 impl TypedText {
@@ -203,6 +207,7 @@ impl TypedText {
             typed,
             tidy,
             title: Title::of(text),
+            above: 0,
         })
     }
 }
@@ -229,10 +234,12 @@ fn read_input(rt: &HostRuntime) -> Result<TypedText, Ending> {
     }
 }
 
-/// The board of a text, for a game with so many cells; what is wrong with it is told, with where it lies.
-pub fn read_board_text(
+/// The board of a text, for a game with so many cells, above which so many lines of its file stand; what is wrong with it is told, with
+/// where it lies.
+pub fn read_board_below(
     rt: &HostRuntime,
     text: &[u8],
+    above: u32,
     words: TextWords,
     cells: u8,
 ) -> Result<Position, Ending>
@@ -240,7 +247,7 @@ pub fn read_board_text(
     ensures fits { IfOk result (Fits cells) }
 {
     match TypedText::read(&mut FromSlice::new(text)) {
-        Ok(typed) => read_typed(rt, &typed, words, cells),
+        Ok(typed) => read_typed(rt, &TypedText { above, ..typed }, words, cells),
         Err(fault) => Err(unread(rt, fault)),
     }
 }
@@ -258,8 +265,9 @@ fn read_typed(
     let text = BoardText {
         tidy: typed.tidy.bytes(),
         typed: typed.typed.as_slice(),
+        above: typed.above,
     };
-    let read = read_text(rt, text, words, cells);
+    let read = read_text(rt, &text, words, cells);
     if let Some(title) = &typed.title {
         let title = title.bytes().trim_ascii();
         let (shown, more) = (front_of(title).escape_ascii(), rest_of(title));
@@ -271,7 +279,7 @@ fn read_typed(
 // The board of a text that was made tidy.
 fn read_text(
     rt: &HostRuntime,
-    text: BoardText<'_>,
+    text: &BoardText<'_>,
     words: TextWords,
     cells: u8,
 ) -> Result<Position, Ending>
@@ -281,19 +289,25 @@ fn read_text(
     if words.is_in_rows {
         let columns = match columns_of_row_text(text.tidy) {
             Ok(columns) => columns,
-            Err(fault) => return Err(tell_of_row_text(rt, fault)),
+            Err(fault) => return Err(tell_of_row_text(rt, fault, text)),
         };
-        let text = BoardText {
+        let made = BoardText {
             tidy: columns.bytes(),
             typed: &[],
+            above: 0,
         };
-        let start = read_columns(rt, text, words.is_guessed, cells)?;
-        note_lengths(rt, &start, &[], cells);
+        let start = read_columns(rt, &made, words.is_guessed, cells)?;
+        note_short_rows(rt, &start, text);
+        if !note_lengths(rt, &start, &[], cells) {
+            note_in_columns(rt, &start, text.tidy, cells);
+        }
         return Ok(start);
     }
     match read_columns(rt, text, words.is_guessed, cells) {
         Ok(start) => {
-            note_lengths(rt, &start, text.tidy, cells);
+            if !note_lengths(rt, &start, text.tidy, cells) {
+                note_in_rows(rt, &start, text.tidy, cells);
+            }
             Ok(start)
         }
         Err(ending) => {
@@ -306,7 +320,7 @@ fn read_text(
 // The board of a text in columns; where that is asked for, the cards that it lacks are taken for home, if that makes it one.
 fn read_columns(
     rt: &HostRuntime,
-    text: BoardText<'_>,
+    text: &BoardText<'_>,
     is_guessed: bool,
     cells: u8,
 ) -> Result<Position, Ending>

@@ -13,56 +13,36 @@ use fc_cards::{Card, Place};
 use fc_moves::{Game, Move};
 use fc_position::Position;
 use fc_replay::{MoveGaps, ReplayFault, read_token};
-use fc_review::{WeaveFault, board_after, weave};
+use fc_review::{Entry, WeaveFault, Woven, weave_entries};
 use fc_runs::ProgramFault;
 use fc_text::Tokens;
 use std::alloc::Global;
 
-// A move of a list.
-#[derive(Clone, Copy)]
-enum Entry {
-    // From where to where.
-    Move(Move),
-    // Which card goes where.
-    Card(Card, Place),
-}
-
-/// A list of moves that is played, with the moves home that it leaves out.
-#[derive(Drop)]
-pub struct WrittenList {
-    pub moves: Vec<Move>,
-    /// How many moves home it leaves out.
-    pub inserted: usize,
-}
-
-/// The moves of a list's text that are played on a position of the game; what is wrong with it is told.
+/// The moves of a list's text that are played on a position of the game, with the moves home that it leaves out; what is wrong with it
+/// is told.
 pub fn list_of<G: Game>(
     rt: &HostRuntime,
     game: &G,
     start: &Position,
     text: &[u8],
     has_sequences: bool,
-) -> Result<WrittenList, Ending>
+) -> Result<Woven, Ending>
     requires position { IsPositionOf (G.game game.now) start.now }
     ensures run { IfOk result (λ list. (c : Board) × Run (G.game game.now) start.now list.moves.items c) }
     ensures texts { IfOk result (λ list. All HasText list.moves.items) }
 {
     let alloc = rt.alloc();
     let bare = entries_alone(alloc, text, has_sequences)?;
-    let given = if has_sequences {
+    let entries = if has_sequences {
         expanded(rt, game, start, bare.as_slice())?
     } else {
-        let entries = entries_of(alloc, bare.as_slice())?;
-        moves_of(alloc, game, start, entries.as_slice())?
+        entries_of(alloc, bare.as_slice())?
     };
-    if given.len() > u32::MAX as usize {
+    if entries.len() > u32::MAX as usize {
         return Err(Ending::Fault(ProgramFault::Memory));
     }
-    match weave(alloc, game, start, given.as_slice()) {
-        Ok(moves) => {
-            let inserted = moves.len().saturating_sub(given.len());
-            Ok(WrittenList { moves, inserted })
-        }
+    match weave_entries(alloc, game, start, entries.as_slice()) {
+        Ok(list) => Ok(list),
         Err(WeaveFault::Memory) => Err(Ending::Fault(ProgramFault::Memory)),
         Err(WeaveFault::Refused(step)) => Err(Ending::Fault(not_allowed(step))),
     }
@@ -73,23 +53,34 @@ fn not_allowed(step: u32) -> ProgramFault {
     ProgramFault::Moves(ReplayFault::NotAllowed(step))
 }
 
-// The one-card moves of a list whose entries may move several cards; what is wrong with it is told.
+// The one-card moves of a list whose entries may move several cards, each as an entry; what is wrong with it is told.
 fn expanded<G: Game>(
     rt: &HostRuntime,
     game: &G,
     start: &Position,
     list: &[u8],
-) -> Result<Vec<Move>, Ending>
+) -> Result<Vec<Entry>, Ending>
     requires position { IsPositionOf (G.game game.now) start.now }
 {
     match moves_played(rt.alloc(), game, start, list, true) {
-        Ok(moves) => Ok(moves),
+        Ok(moves) => moves_alone(rt.alloc(), moves.as_slice()),
         Err(fault) => {
             let status = tell(rt, &fault);
             tell_sequence(rt, game, start, list, fault);
             Err(Ending::Told(status))
         }
     }
+}
+
+// Moves as entries.
+fn moves_alone(alloc: Global, moves: &[Move]) -> Result<Vec<Entry>, Ending> {
+    let mut entries = Vec::new(alloc);
+    for m in moves {
+        let Ok(()) = entries.push(Entry::Move(*m)) else {
+            return Err(Ending::Fault(ProgramFault::Memory));
+        };
+    }
+    Ok(entries)
 }
 
 // A word that names a card, and the move that it is where no place follows it.
@@ -202,71 +193,4 @@ fn named_place(token: &[u8]) -> Option<Place> {
         b"h" | b"home" => Some(Place::Home),
         _ => None,
     }
-}
-
-// The moves of entries, where those that name a card take it from where it stands then.
-fn moves_of<G: Game>(
-    alloc: Global,
-    game: &G,
-    start: &Position,
-    entries: &[Entry],
-) -> Result<Vec<Move>, Ending>
-    requires position { IsPositionOf (G.game game.now) start.now }
-{
-    let mut moves = Vec::new(alloc);
-    for entry in entries {
-        let m = match *entry {
-            Entry::Move(m) => Some(m),
-            Entry::Card(card, to) => {
-                place_then(alloc, game, start, moves.as_slice(), card)?.map(|from| Move {
-                    from,
-                    to,
-                })
-            }
-        };
-        if let Some(m) = m {
-            let Ok(()) = moves.push(m) else {
-                return Err(Ending::Fault(ProgramFault::Memory));
-            };
-        }
-    }
-    Ok(moves)
-}
-
-// Where a card stands after moves; nowhere where it is home.
-fn place_then<G: Game>(
-    alloc: Global,
-    game: &G,
-    start: &Position,
-    moves: &[Move],
-    card: Card,
-) -> Result<Option<Place>, Ending>
-    requires position { IsPositionOf (G.game game.now) start.now }
-{
-    if moves.len() > u32::MAX as usize {
-        return Err(Ending::Fault(ProgramFault::Memory));
-    }
-    match weave(alloc, game, start, moves) {
-        Ok(woven) => {
-            let board = board_after(game, start, woven.as_slice(), woven.len());
-            Ok(place_of(&board, card))
-        }
-        Err(WeaveFault::Memory) => Err(Ending::Fault(ProgramFault::Memory)),
-        Err(WeaveFault::Refused(step)) => Err(Ending::Fault(not_allowed(step))),
-    }
-}
-
-// Where a card stands; nowhere where it is home.
-fn place_of(position: &Position, card: Card) -> Option<Place> {
-    for i in 0..8 {
-        if position.column(i).contains(&card) {
-            return Some(Place::Column(i));
-        }
-    }
-    for i in 0..4 {
-        if position.cell(i) == Some(card) {
-            return Some(Place::Cell(i));
-        }
-    }
-    None
 }

@@ -3,6 +3,7 @@
 
 ghost use Rattle.std.specs.Prelude.{◌≤◌};
 
+use crate::output::file_lines::{in_file, row_in_file};
 use crate::output::notes::{BoardText, add_note};
 use fc_cert::LONGEST_CERTIFICATE;
 use fc_methods::{MOST_GREAT_BUDGET, Sought};
@@ -107,8 +108,9 @@ pub fn tell_of_length(rt: &HostRuntime) -> Ending {
     let none = BoardText {
         tidy: &[],
         typed: &[],
+        above: 0,
     };
-    add_note(rt, BoardFault::TooLong, none, 0);
+    add_note(rt, BoardFault::TooLong, &none, 0);
     Ending::Told(status)
 }
 
@@ -119,12 +121,12 @@ const NO_BOARD: &str = "the board is empty: its text has nothing but blanks";
 pub fn tell_of_board(
     rt: &HostRuntime,
     fault: ProgramFault,
-    text: BoardText<'_>,
+    text: &BoardText<'_>,
     cells: u8,
 ) -> Ending
     requires cells { cells ≤ 4 }
 {
-    let status = tell(rt, &fault);
+    let status = tell_in_file(rt, &fault, text);
     if let ProgramFault::Board(fault) = fault {
         if text.tidy.iter().all(|byte| byte.is_ascii_whitespace()) {
             let _told = eprintln!(rt; "fc_solve: {NO_BOARD}");
@@ -135,11 +137,23 @@ pub fn tell_of_board(
     Ending::Told(status)
 }
 
+// Says what the fault is, its line told by its number in its file.
+fn tell_in_file(rt: &HostRuntime, fault: &ProgramFault, text: &BoardText<'_>) -> u8 {
+    match fault {
+        ProgramFault::Board(fault) => tell(rt, &ProgramFault::Board(in_file(text, *fault))),
+        _ => tell(rt, fault),
+    }
+}
+
 /// Says what is wrong with a board's text in rows.
-pub fn tell_of_row_text(rt: &HostRuntime, fault: RowTextFault) -> Ending {
+pub fn tell_of_row_text(rt: &HostRuntime, fault: RowTextFault, text: &BoardText<'_>) -> Ending {
+    let fault = row_in_file(text, fault);
     match fault {
         RowTextFault::TooLong => tell_of_length(rt),
-        RowTextFault::BadHead(_) | RowTextFault::LongRow(_) | RowTextFault::ShortRow(_) => {
+        RowTextFault::BadHead(_)
+        | RowTextFault::OpenRow(..)
+        | RowTextFault::LongRow(_)
+        | RowTextFault::ShortRow(_) => {
             let _told = eprintln!(rt; "fc_solve: board: {fault}");
             Ending::Told(REFUSED)
         }

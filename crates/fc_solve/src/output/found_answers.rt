@@ -169,7 +169,7 @@ fn certified<G: Game>(
     let text = verdict_text(alloc, &answer.verdict)?;
     let letters = letters_of(alloc, &answer.verdict)?;
     if let Some(cert) = cert {
-        let Ok(()) = write_certificate(game, &answer, cert) else {
+        let Ok(_) = write_certificate(game, &answer, cert) else {
             return Err(ProgramFault::Write(Output::Cert));
         };
     }

@@ -2,6 +2,7 @@
 
 ghost use Rattle.std.specs.Prelude.{◌≤◌};
 
+use crate::output::file_lines::file_line;
 use crate::output::token_fronts::{front_of, rest_of};
 use fc_cards::Card;
 use fc_text::{BoardFault, Spot, first_spot_of, last_spot_of, spot_of};
@@ -12,11 +13,13 @@ use fc_typed::{GuessedText, missing_cards, typed_word};
 pub struct BoardText<'a> {
     pub tidy: &'a [u8],
     pub typed: &'a [u8],
+    /// How many lines of its file stand above it.
+    pub above: u32,
 }
 
 /// Says on standard error where the fault of a board's text lies, that was read for a game with so many cells, and why it
 /// is one. What is quoted is quoted as it was typed.
-pub fn add_note(rt: &HostRuntime, fault: BoardFault, text: BoardText<'_>, cells: u8)
+pub fn add_note(rt: &HostRuntime, fault: BoardFault, text: &BoardText<'_>, cells: u8)
     requires cells { cells ≤ 4 }
 {
     match fault {
@@ -25,11 +28,12 @@ pub fn add_note(rt: &HostRuntime, fault: BoardFault, text: BoardText<'_>, cells:
             "a board's text has at most 4096 bytes: keep the lines of one board alone",
         ),
         BoardFault::RepeatedLine(line) => {
+            let line = file_line(text, line);
             let _told = eprintln!(rt;
                 "fc_solve: line {line}: a line above tells it already: keep one board alone"
             );
         }
-        BoardFault::RepeatedCard(card) => note_places(rt, text.tidy, card),
+        BoardFault::RepeatedCard(card) => note_places(rt, text, card),
         BoardFault::MissingCard(_) => note_missing(rt, text.tidy, cells),
         BoardFault::BadCard(_)
         | BoardFault::BadFoundation(_)
@@ -63,9 +67,9 @@ fn note_missing(rt: &HostRuntime, text: &[u8], cells: u8)
 }
 
 // Says where the fault of a line lies.
-fn note_spot(rt: &HostRuntime, text: BoardText<'_>, cells: u8, fault: BoardFault) {
+fn note_spot(rt: &HostRuntime, text: &BoardText<'_>, cells: u8, fault: BoardFault) {
     if let Some(spot) = spot_of(text.tidy, cells, fault) {
-        note_token(rt, text.typed, &spot, reason_of(&fault, &spot));
+        note_token(rt, text, &spot, reason_of(&fault, &spot));
     }
 }
 
@@ -73,11 +77,16 @@ fn note(rt: &HostRuntime, words: &str) {
     let _told = eprintln!(rt; "fc_solve: {words}");
 }
 
+// The number in its file of the line where a token stands.
+fn spot_line(text: &BoardText<'_>, spot: &Spot<'_>) -> u32 {
+    file_line(text, u32::try_from(spot.line).unwrap_or(u32::MAX))
+}
+
 // Says where a token stands, and what is wrong with it.
-fn note_token(rt: &HostRuntime, typed: &[u8], spot: &Spot<'_>, reason: &str) {
-    let (line, place) = (spot.line, spot.place);
+fn note_token(rt: &HostRuntime, text: &BoardText<'_>, spot: &Spot<'_>, reason: &str) {
+    let (line, place) = (spot_line(text, spot), spot.place);
     // (a sign of a suit is told by its letter)
-    let token = match typed_word(typed, line as usize, spot.token) {
+    let token = match typed_word(text.typed, spot.line, spot.token) {
         Some(word) if word.is_ascii() => word,
         _ => spot.token,
     };
@@ -86,18 +95,22 @@ fn note_token(rt: &HostRuntime, typed: &[u8], spot: &Spot<'_>, reason: &str) {
 }
 
 // Says where a card stands that has two places or more.
-fn note_places(rt: &HostRuntime, text: &[u8], card: Card) {
-    let (Some(first), Some(last)) = (first_spot_of(text, card), last_spot_of(text, card)) else {
+fn note_places(rt: &HostRuntime, text: &BoardText<'_>, card: Card) {
+    let spots = (
+        first_spot_of(text.tidy, card),
+        last_spot_of(text.tidy, card),
+    );
+    let (Some(first), Some(last)) = spots else {
         return;
     };
-    let (line, place) = (first.line, first.place);
-    if (line, place) == (last.line, last.place) {
+    let (line, place) = (spot_line(text, &first), first.place);
+    let (last_line, last_place) = (spot_line(text, &last), last.place);
+    if (line, place) == (last_line, last_place) {
         let _told = eprintln!(rt;
             "fc_solve: line {line}, word {place}: '{card}' is home already, by its foundation"
         );
         return;
     }
-    let (last_line, last_place) = (last.line, last.place);
     let _told = eprintln!(rt;
         "fc_solve: line {line}, word {place}, and line {last_line}, word {last_place}: '{card}' is one card"
     );

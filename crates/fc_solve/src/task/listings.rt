@@ -3,7 +3,7 @@ ghost use Rattle.fc_moves.specs.GameRules.{IsPositionOf};
 
 use crate::input::apart::keep_apart;
 use crate::input::board_lists::{is_blank, is_rule, read_list};
-use crate::input::board_sources::{deal_for, read_board_text};
+use crate::input::board_sources::{deal_for, read_board_below};
 use crate::output::answer_objects::{Name, fault_line, row_line};
 use crate::output::cert_names::cert_name;
 use crate::output::certs::CertFile;
@@ -187,28 +187,37 @@ impl<'a, G: Game + Drop> Desk<'a, G> {
     // Answers the boards of a file's text, which lines of dashes part; how many there are.
     fn answer_list(&mut self, path: &str, text: &[u8]) -> Result<u64, Ending> {
         let mut board = Vec::new(self.rt.alloc());
-        let mut place = 0;
+        let (mut place, mut above, mut number) = (0, 0u32, 0u32);
         for line in text.split(|byte| *byte == b'\n') {
+            number = number.saturating_add(1);
             if is_rule(line) {
-                place = self.answer_text(path, place, board.as_slice())?;
+                place = self.answer_text(path, place, above, board.as_slice())?;
                 board.clear();
+                above = number;
             } else {
                 board.extend_from_slice(line)?;
                 board.extend_from_slice(b"\n")?;
             }
         }
-        self.answer_text(path, place, board.as_slice())
+        self.answer_text(path, place, above, board.as_slice())
     }
 
-    // Answers the board of a text, which stands behind so many others in its file, unless it is blank; how many there are then.
-    fn answer_text(&mut self, path: &str, before: u64, text: &[u8]) -> Result<u64, Ending> {
+    // Answers the board of a text, which stands behind so many others and below so many lines in its file, unless it is blank; how
+    // many there are then.
+    fn answer_text(
+        &mut self,
+        path: &str,
+        before: u64,
+        above: u32,
+        text: &[u8],
+    ) -> Result<u64, Ending> {
         if is_blank(text) {
             return Ok(before);
         }
         let place = before.saturating_add(1);
         let name = format!(in self.rt.alloc(); "{path}:{place}")?;
         let cells = self.question.game().cells();
-        match read_board_text(self.rt, text, self.words.text, cells) {
+        match read_board_below(self.rt, text, above, self.words.text, cells) {
             Ok(start) => {
                 self.answer(Name::Board(name.as_str()), &start)?;
             }
@@ -300,7 +309,7 @@ impl<'a, G: Game + Drop> Desk<'a, G> {
         };
         self.write(text.as_bytes())?;
         self.status = self.status.max(status);
-        self.tally.note(NO_BOARD);
+        self.tally.note_no_board();
         Ok(())
     }
 

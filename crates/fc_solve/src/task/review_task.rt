@@ -9,7 +9,7 @@ use crate::input::apart::keep_apart;
 use crate::input::board_sources::{find_board, read_start};
 use crate::input::command_games::InGame;
 use crate::input::moves::{find_file, read_moves};
-use crate::input::written_lists::{WrittenList, list_of};
+use crate::input::written_lists::list_of;
 use crate::output::answer_forms::tell_whole;
 use crate::output::answer_objects::Name;
 use crate::output::certs::CertFile;
@@ -27,7 +27,7 @@ use fc_best::Unheard;
 use fc_methods::{Question, Sought};
 use fc_moves::{Game, Move, allows, apply};
 use fc_position::Position;
-use fc_review::{Finding, board_after, find, finding_text, known_after, run_review};
+use fc_review::{Finding, Woven, board_after, find, finding_text, known_after, run_review};
 use fc_runs::{Input, Output, ProgramFault};
 use fc_text::print_board;
 use fc_words::{BoardWords, FileWord, GameWords, ReviewLists, ReviewWords};
@@ -103,7 +103,7 @@ fn answer<G: Game + Drop>(
     told: Told<'_>,
     question: &Question<G>,
     start: &Position,
-    list: &WrittenList,
+    list: &Woven,
     cert: Option<&mut CertFile>,
 ) -> Result<u8, Ending>
     requires position { IsPositionOf question.now.game start.now }
@@ -161,7 +161,7 @@ pub fn found_of<G: Game + Drop>(
     rt: &HostRuntime,
     question: &Question<G>,
     start: &Position,
-    list: &WrittenList,
+    list: &Woven,
     cert: Option<&mut CertFile>,
 ) -> Result<FoundList, Ending>
     requires position { IsPositionOf question.now.game start.now }

@@ -1,0 +1,2 @@
+-- What this crate's own functions and proofs speak of, and no public promise.
+pub mod Tally
