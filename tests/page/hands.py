@@ -313,8 +313,8 @@ def other_links(page):
     has(text(page, "known"), "This board of Baker's Game, kings alone on empty columns, 2 cells is won in 5 moves.", "another game")
     page.open("#deal=146692&answer=can't+be+won")
     has(text(page, "known"), "Deal 146692 can't be won: so its answer says.", "an answer without a list")
-    page.open("#deal=31999&answer=gave+up&floor=70")
-    has(text(page, "known"), "Deal 31999: no list was found, and none that wins has fewer than 70 moves: so its answer says.", "an answer that gave up")
+    page.open("#deal=999999&answer=gave+up&floor=70")
+    has(text(page, "known"), "Deal 999999: no list was found, and none that wins has fewer than 70 moves: so its answer says.", "an answer that gave up")
     drawn = subprocess.run([os.environ["fc_solve"], "show", "1"], capture_output=True, text=True, check=True).stdout
     page.open(link(drawn))
     page.wait("return store.now().deal === null")
@@ -323,11 +323,51 @@ def other_links(page):
     same(page.run("return document.getElementById('paste-box').open"), True, "a link with a fault")
 
 
+def told_by(page):
+    """What is known, and what is wrong with the link."""
+    page.wait("return !rows.isAwaited(store.now().deal ?? 1)")
+    return page.run("return document.querySelector('#known .sentence').textContent"), text(page, "deal-fault")
+
+
+def wrong_links(page):
+    """What is no number is told and passed over; what a link claims stands neither above a deal's own row nor against its list."""
+    rows = rows_of_gallery()
+    own = {deal: f"Deal {deal} is won in {rows[deal][2]} moves, and no list has fewer: shown within {rows[deal][4]} positions." for deal in (5, 617)}
+    same([rows[5][1], rows[617][1]], ["shortest", "shortest"], "what the rows of both deals say")
+    for fragment, sentence, fault in (
+            ("#deal=5&step=x", own[5], "the link's step, x, is no number"),
+            ("#deal=5&step=-1", own[5], "the link's step, -1, is no number"),
+            ("#deal=617&floor=abc", own[617], "the link's floor, abc, is no number"),
+            ("#deal=617&floor=7", own[617], ""),
+            ("#deal=617&answer=can't+be+won", own[617], "the link's answer, can't be won, is refuted by its list"),
+            ("#deal=617&answer=perhaps", own[617], "the link's answer, perhaps, is none"),
+            ("#deal=617&list=2a&floor=90", f"Deal 617 isn't won by this list of 1 move, and no list has fewer than {rows[617][2]}: shown within {rows[617][4]} positions.", ""),
+            ("#deal=999999&floor=abc", "Deal 999999: no answer is kept here. This command looks for one:", "the link's floor, abc, is no number"),
+            (link(TWO_KINGS, list="13 1h 2h 2h 3h", floor="abc"), "This board is won in 5 moves.", "the link's floor, abc, is no number"),
+            (link(TWO_KINGS, list="13 1h 2h 2h 3h", floor="6"), "This board is won in 5 moves.", "the link's floor, 6, is refuted by its list"),
+            (link(TWO_KINGS, list="13 1h 2h 2h 3h", floor="4"), "This board is won in 5 moves, and no list has fewer than 4: so its answer says.", ""),
+            (link(TWO_KINGS, list="13 1h 2h 2h 3h", answer="can't be won"), "This board is won in 5 moves.", "the link's answer, can't be won, is refuted by its list")):
+        page.open(fragment)
+        same(told_by(page), (sentence, fault), f"the link {fragment}")
+        deal = urllib.parse.parse_qs(fragment[1:]).get("deal")
+        same(page.run("return [store.now().deal, store.now().at]"), [deal and int(deal[0]), 0], f"what the link {fragment} shows")
+
+
+def refuse_scripts(page):
+    """A script that is put into the page doesn't run: the page's policy allows its own alone."""
+    page.open("#deal=5")
+    page.run("document.body.append(Object.assign(document.createElement('script'), { textContent: 'window.wasRun = true' }))")
+    page.run("document.body.insertAdjacentHTML('beforeend', '<img src=\"data:,\" onerror=\"window.wasRun = true\">')")
+    page.run_async("await new Promise(done => setTimeout(done, 200))")
+    same(page.run("return window.wasRun ?? null"), None, "whether another script ran")
+    same(len([it for it in page.console() if "Content Security Policy" in it or "Content-Security-Policy" in it]) > 0, True, "whether the console tells it")
+
+
 def clicks(_folder):
     with browsers.Chromium() as page:
         page.scheme("light")
         page.size(1280)
-        for work in (drag_cards, tap_cards, take_by_keys, await_rows, watch, other_links):
+        for work in (drag_cards, tap_cards, take_by_keys, await_rows, watch, other_links, wrong_links, refuse_scripts):
             work(page)
             clean(page, work.__name__)
     return "cards dragged, tapped and taken by keys, a solution watched, links opened: as they should be"
@@ -352,6 +392,12 @@ def in_firefox(folder):
         page.picture(f"{folder}/firefox.png")
         page.type("body", "u" * int(row[2]))
         same(text(page, "count"), f"0 of {row[2]}", "the count when all is undone")
+        page.open("#deal=5&step=x")
+        for _ in range(200):
+            if "Deal 5 is won" in text(page, "known"):
+                break
+        has(text(page, "known"), "Deal 5 is won", "what is known where the step is no number")
+        same(text(page, "deal-fault"), "the link's step, x, is no number", "what is wrong with the link")
         page.run("document.querySelector('.bar[data-field=moves][data-value=\"80\"]').dispatchEvent(new MouseEvent('click', { bubbles: true }))")
         same(page.run("return [...document.querySelectorAll('#rows td:nth-child(3)')].every(it => it.textContent === '80')"), True, "the rows that pass")
         same(page.run(OUTSIDE), [], "what came from outside")
