@@ -78,6 +78,20 @@ def in_bytes(text, order):
     return "".join("?" if 0xD800 <= number < 0xE000 else chr(number) for number in numbers).encode()
 
 
+def file_lines(text):
+    """The numbers in the file of the lines that stay: all but those that are a comment alone, unless last, and the title."""
+    if text.startswith((b"\xff\xfe", b"\xfe\xff")):
+        return None
+    text = text[3:] if text.startswith(b"\xef\xbb\xbf") else text
+    lines = text.replace("\u00a0".encode(), b" ").split(b"\n")
+    stay = [number for number, line in enumerate(lines, 1) if number == len(lines) or not line.lstrip(BLANKS).startswith(b"#")]
+    told = said_of(text)
+    kept = untitled(told)
+    if kept != told:
+        del stay[next(at for at, line in enumerate(told) if line.strip(BLANKS + b"\r"))]
+    return stay
+
+
 def said(lines):
     """What lines say: without comments and commas, their cells named as the reader names them."""
     told = []

@@ -26,7 +26,14 @@ def wanted(text, cells):
         board = rules.read_plain(rules.plain(text), cells)
         return 0, rules.printed(board).encode(), lengths_note(board) or title_note(text)
     except rules.Fault as fault:
-        return 3, b"", f"fc_solve: board: {fault}"
+        return 3, b"", f"fc_solve: board: {in_file(text, str(fault))}"
+
+
+def in_file(text, fault):
+    """A fault whose line is told by its number in the file."""
+    line = re.match(r"line ([0-9]+):", fault)
+    stay = rules.file_lines(text) if line else None
+    return f"line {stay[int(line[1]) - 1]}:{fault[line.end():]}" if stay else fault
 
 
 def title_note(text):
