@@ -42,7 +42,7 @@ last_of-push cards y =
     ∙ ap (λ (n : ℕ). Some n) (get_or_push cards y 0 (length (cards ++ y ∷ []) - 1) (omega (arith, more)))
 
 -- a bit of a number that is cut, and of one that is shifted
-min_one : (m : ℕ) → m < 2 → min m 1 ≡ m
+pub min_one : (m : ℕ) → m < 2 → min m 1 ≡ m
 min_one m small = omega arith
 
 cut_bit : (w n i : ℕ) → i < w → bit_at (n % 2 ^ w) i ≡ bit_at n i

@@ -16,7 +16,7 @@ use Rattle.fc_bound.specs.Rows.{AreBits, AreWaiting, IsRow, no_row}
 use Rattle.fc_bound.specs.inner.Rows.{stands_above}
 use Rattle.fc_bound.specs.Knots.{ends_with}
 use Rattle.fc_bound.proofs.AboveLemmas.{and-false, and-true, or-false, or-true, lower-more, not_true, stands-more, stands-counted, above-one, above-other, above-top}
-use Rattle.fc_bound.proofs.BitLemmas.{bits_or, either_bits, one_bit_is, last_of-push}
+use Rattle.fc_bound.proofs.BitLemmas.{either_bits, one_bit_is, last_of-push}
 use Rattle.fc_bound.proofs.LeftLemmas.{last_stands}
 
 -- a card that stands once isn't among those before it
@@ -24,12 +24,6 @@ pub not_yet : (seen : List ℕ) (n : ℕ) → count_in_column n (seen ++ n ∷ [
 not_yet seen n once = not_true (stands_in seen n) (λ stands.
     let one : ◌≡◌ {A = ℕ} (cond (n == n) 1 0) 1 = ap (λ t. cond t 1 0) (eq-eqb n n refl) in
     omega (arith, stands-counted seen n stands, sum_by_push (λ x. cond (x == n) 1 0) seen n, once, one))
-
-pub stand_more : (all n : ℕ) (seen : List ℕ) → n < 64 → AreBits all (stands_in seen)
-    → AreBits (bit_or all (1 * 2 ^ n % 2 ^ 64)) (stands_in (seen ++ n ∷ []))
-stand_more all n seen below are =
-    bits_or all (1 * 2 ^ n % 2 ^ 64) (stands_in seen) (λ c. n == c) (stands_in (seen ++ n ∷ [])) are (λ c. one_bit_is n c below)
-    (λ c. stands-more seen n c)
 
 pub end_one : (n : ℕ) (seen : List ℕ) → n < 64 → AreBits (1 * 2 ^ n % 2 ^ 64) (λ c. ends_with c (last_of (seen ++ n ∷ [])))
 end_one n seen below c = one_bit_is n c below ∙ ap (λ o. cond (ends_with c o) 1 0) (sym (last_of-push seen n))

@@ -201,6 +201,7 @@ impl BoundKind {
         ensures known { IfSome result (λ known. OfEachStep m card held there
             (λ b z. IsShown self b shown.number shown.note → IsShown self z known.number known.note)) }
         ensures plain { self ≡ Plain → IsSome result }
+        ensures told { bit_at shown.note card ≡ 0 → IsSome result }
     {
         if self.is_noted(card, shown.note) && !held {
             return None;
@@ -264,6 +265,7 @@ impl BoundKind {
         requires card { card < 52 }
         ensures value { result ≡ false → self ≡ Clearing → bit_at note card ≡ 0 }
         ensures plain { self ≡ Plain → result ≡ false }
+        ensures noted { bit_at note card ≡ 0 → result ≡ false }
     {
         match self {
             BoundKind::Plain => false,

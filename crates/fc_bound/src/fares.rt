@@ -1,8 +1,8 @@
 //! What a move that takes no card home changes in a bound, where that is plain to see: what its card adds, before and after.
 
-ghost use Rattle.std.specs.Prelude.{◌≡◌, ◌≢◌, ◌+◌, ◌≤◌, IfSome};
+ghost use Rattle.std.specs.Prelude.{◌≡◌, ◌≢◌, ℕ, ◌+◌, ◌≤◌, Some, IfSome, IsSome};
 ghost use Rattle.fc_cards.specs.declared.places.Place.TheVariants.{Home};
-ghost use Rattle.fc_position.specs.Board.{Board, board_without};
+ghost use Rattle.fc_position.specs.Board.{Board, board_without, playable};
 ghost use Rattle.fc_position.specs.Position.{IsPosition};
 ghost use Rattle.fc_moves.specs.declared.steps.Move.{Move};
 ghost use Rattle.fc_moves.specs.GameRules.{GameRules};
@@ -34,6 +34,7 @@ pub(crate) fn is_held_there(position: &Position, card: Card, to: Place) -> bool
 pub(crate) fn bound_after(position: &Position, m: Move, low: u8) -> Option<u8>
     requires bound { low ≡ bound position.now }
     ensures value { IfSome result (λ after. (g : GameRules) (z : Board) → Step g position.now m z → m.to ≢ Home → after ≡ bound z) }
+    ensures told { (u : ℕ) → playable position.now m.from ≡ Some u → IsSome result }
     ensures whole { IsPosition position.now }
 {
     let card = position.playable(m.from)?;

@@ -1,9 +1,10 @@
-ghost use Rattle.std.specs.Prelude.{◌≡◌, ◌≢◌, ◌≤◌, IfSome};
+ghost use Rattle.std.specs.Prelude.{◌≡◌, ◌≢◌, ℕ, ◌≤◌, Some, IfSome, IsSome};
 ghost use Rattle.fc_cards.specs.declared.places.Place.TheVariants.{Home};
-ghost use Rattle.fc_position.specs.Board.{Board};
+ghost use Rattle.fc_position.specs.Board.{Board, playable};
 ghost use Rattle.fc_position.specs.Position.{IsPosition};
 ghost use Rattle.fc_moves.specs.GameRules.{GameRules};
 ghost use Rattle.fc_moves.specs.Step.{Step};
+ghost use Rattle.fc_bound.specs.declared.kinds.BoundKind.TheVariants.{Plain};
 ghost use Rattle.fc_bound.specs.Kinds.{guide_of, low_of};
 ghost use Rattle.fc_bound.specs.Rows.{IsTableOf};
 
@@ -71,10 +72,11 @@ impl BoundKind {
     }
 
     /// The guide of where a move leads that takes no card home, by that of where it is made,
-    /// where that is plain to see: it isn't counted. By the plain bound it always is.
+    /// where that is plain to see: it isn't counted. By the plain bound it is for each card that may be taken.
     pub fn guide_after(self, position: &Position, m: Move, bound: u8) -> Option<u8>
         requires bound { bound ≡ guide_of self position.now }
         ensures value { IfSome result (λ after. (g : GameRules) (z : Board) → Step g position.now m z → m.to ≢ Home → after ≡ guide_of self z) }
+        ensures plain { self ≡ Plain → (u : ℕ) → playable position.now m.from ≡ Some u → IsSome result }
         ensures whole { IsPosition position.now }
     {
         match self {

@@ -1,6 +1,7 @@
 //! What is plain to see of where a move leads that takes no card home, by the table of the position's columns.
 
-ghost use Rattle.std.specs.Prelude.{◌≡◌, ◌≢◌, ℕ, ◌<◌, ◌≤◌, Some, IfSome, IsSome};
+ghost use Rattle.std.specs.Prelude.{◌≡◌, ◌≢◌, ℕ, ◌<◌, ◌≤◌, Some, None, IfSome, IsSome};
+ghost use Rattle.std.specs.Int.{bit_at};
 ghost use Rattle.fc_cards.specs.declared.places.Place.TheVariants.{Home};
 ghost use Rattle.fc_position.specs.Board.{Board, playable};
 ghost use Rattle.fc_position.specs.Position.{IsPosition};
@@ -71,7 +72,7 @@ impl BoundKind {
     }
 
     /// The same as [`known_after`](BoundKind::known_after), by the table of the position's columns, of more moves: also where the card
-    /// goes onto another one, but none of its suit in the columns is lower.
+    /// goes onto another one, but none of its suit in the columns is lower. A card that isn't noted and goes onto none is always known of.
     #[inline]
     pub fn known_by(
         self,
@@ -84,6 +85,7 @@ impl BoundKind {
         requires landing { IsLanding position.now landing.now }
         requires shown { IsShown self position.now shown.number shown.note }
         ensures known { IfSome result (λ known. (g : GameRules) (z : Board) → Step g position.now landing.now.m z → IsShown self z known.number known.note) }
+        ensures told { landing.now.host ≡ None → bit_at shown.note landing.now.card ≡ 0 → IsSome result }
         ensures whole { IsPosition position.now }
     {
         let card = landing.card.index();

@@ -72,6 +72,7 @@ impl Shown {
         ensures number { result.number ≡ self.number }
         ensures shown { (kind : BoundKind) (b : Board) → IsPosition b → IsShown kind b self.number self.note → IsShown kind b result.number result.note }
         ensures cards { result.note < 2 ^ 52 }
+        ensures same { (c : ℕ) → c < 52 → bit_at result.note c ≡ bit_at self.note c }
     {
         Shown {
             number: self.number,

@@ -17,6 +17,7 @@ returns-in-Home c = record {
       subst (λ n. IsShown a.self z n a.shown.note) (sym c.saturating_sub-number.ensures)
       (after_home a.self g b z a.m a.card kept.result a.shown.note step p is c.in-Home.is lift);
   plain = λ _. refl;
+  told = λ _. refl;
 }
 
 pub returns-in_default : goal.returns-in_default
@@ -31,4 +32,5 @@ returns-in_default c = record {
       subst (λ n. IsShown a.self z (kept.result + n) a.shown.note) counted
       (after_put a.self g b z a.m a.card kept.result a.shown.note step p is c.in_default.not-Home lift);
   plain = λ _. refl;
+  told = λ _. refl;
 }

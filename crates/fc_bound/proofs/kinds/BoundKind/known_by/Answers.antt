@@ -1,4 +1,5 @@
-use Rattle.std.proofs.Common.{◌≡◌, ℕ, Some, sym, ◌∙◌, ap}
+use Rattle.std.proofs.Common.{◌≡◌, ℕ, Some, sym, ◌∙◌, ap, subst}
+use Rattle.std.specs.Int.{bit_at}
 use Rattle.std.proofs.lemmas.Option.{IfSome_then}
 use Rattle.fc_position.specs.Board.{playable}
 use Rattle.fc_bound.proofs.FamilyMoved.{small}
@@ -19,3 +20,6 @@ returns-clause-known c =
     tells g b z step c.is_held_on-there.ensures.whole same c.is_held-held.ensures.value
     (λ away. c.is_held_on-there.ensures.value g z c.args.landing.now.m step same away landing.host)
     c.requires.shown)
+
+pub returns-clause-told : goal.returns-clause-told
+returns-clause-told c none free = c.known.ensures.told (subst (λ (u : ℕ). bit_at c.args.shown.note u ≡ 0) (sym c.index-card.ensures.value) free)
