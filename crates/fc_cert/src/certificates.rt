@@ -229,17 +229,6 @@ impl<'a> Certificate<'a> {
     }
 }
 
-/// The fault of the bytes' form, the first field by field; `None` exactly where they are a certificate. No memory is asked
-/// for.
-pub fn form_fault(bytes: &[u8]) -> Option<CertFault>
-    ensures value { MatchOption result ((c : Content) × IsSpelled bytes.now c) (IsFormFault bytes.now) }
-{
-    match check_form(bytes) {
-        Ok(_) => None,
-        Err(fault) => Some(fault),
-    }
-}
-
 // Where so many records end that are all of the bytes.
 fn ends_of(alloc: Global, head: Head, records: &[u8], count: u32) -> Result<Vec<u32>, AllocError>
     requires limit { length records.now ≤ LONGEST_CERTIFICATE }

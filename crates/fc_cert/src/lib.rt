@@ -3,7 +3,7 @@
 #![tactic(auto)]
 
 pub use certificate_writers::write_answer;
-pub use certificates::{Certificate, LONGEST_CERTIFICATE, form_fault};
+pub use certificates::{Certificate, LONGEST_CERTIFICATE};
 pub use claims::Claim;
 pub use contents::{Form, Head, Kind};
 pub use faults::CertFault;

@@ -14,7 +14,7 @@ use Rattle.fc_answers.specs.declared.answers.Verdict.{Verdict}
 use Rattle.fc_answers.specs.declared.answers.Verdict.TheVariants.{Shortest, Won, CannotWin, GaveUp}
 use Rattle.fc_methods.specs.Method.{QuestionData}
 use Rattle.fc_best.specs.Best.{IsBestVerdict}
-use Rattle.fc_review.specs.Review.{IsAsked, IsBoardAfter, IsFirstLost, IsKnownAlong, IsLastWon, IsLostAfter, IsOpenAfter, IsReview, IsTraceOf, IsUnsettled, IsWonAfter, Loses, SaysAll, TellsList, first_behind}
+use Rattle.fc_review.specs.Review.{IsAsked, IsBoardAfter, IsKnownAlong, IsLastWon, IsLostAfter, IsOpenAfter, IsReview, IsTraceOf, IsUnsettled, IsWonAfter, Loses, SaysAll, TellsList, first_behind}
 use Rattle.fc_review.proofs.SpanLemmas.{all_said}
 use Rattle.fc_review.specs.declared.known_boards.KnownBoard.{KnownBoard}
 use Rattle.fc_review.specs.declared.reviews.Review.{Review}
@@ -70,18 +70,6 @@ loses q b moves known n (is, tells) lost place = record {
 won_known : (q : QuestionData) (b : Board) (moves : List Move) (asked : List KnownBoard) (won : KnownBoard) → All (IsKnownAlong q b moves) asked
     → IsLastWon asked (Some won) → IsWonAfter q b moves won
 won_known q b moves asked won known is = (All-contains (IsKnownAlong q b moves) asked won known is.0.0, is.0.1)
-
-lost_at : (q : QuestionData) (b : Board) (moves : List Move) (asked : List KnownBoard) (lost : ℕ) → All (IsKnownAlong q b moves) asked
-    → IsFirstLost asked (Some lost) → IsLostAfter q.game b moves lost
-lost_at q b moves asked lost known (at, rest) =
-    subst (IsLostAfter q.game b moves) at.2 (lost_known q b moves at.0 (All-contains (IsKnownAlong q b moves) asked at.0 known at.1) at.3)
-
-pub review_loses : (q : QuestionData) (b : Board) (moves : List Move) (review : Review) (won : KnownBoard) (n : ℕ) → review.won ≡ Some won
-    → review.lost ≡ Some n → n ≡ won.after + 1 → IsReview q b moves review → Loses q.game b moves won.after
-review_loses q b moves review won n same-won same-lost next is =
-    loses q b moves won n
-    (won_known q b moves is.asked won is.known (subst (IsLastWon is.asked) same-won is.trace.won))
-    (lost_at q b moves is.asked n is.known (subst (IsFirstLost is.asked) same-lost is.trace.lost)) next
 
 zero_past : (n : ℕ) → 0 ≡ n + 1 → ⊥
 zero_past n same = omega (arith, same)

@@ -69,18 +69,6 @@ left_none g b list i None lists all none = λ m home allowed.
     none refl there.0 m (omega (arith, low, all)) (subst IsMoveHome (sym there.2) home)
 left_none g b list i (Some m) lists all none = tt
 
--- no move so far takes the card there, nor does this one
-pub met_no_taker : (b : Board) (list : List Move) (i k : ℕ) (card : ℕ) (to : Place) (d e : Move) → i < length list
-    → (IsEntryFor b (of_card card to) (get_or list i e) → ⊥) → ((j : ℕ) (f : Move) → j < i → IsEntryFor b (of_card card to) (get_or list j f) → ⊥)
-    → k < i + 1 → IsEntryFor b (of_card card to) (get_or list k d) → ⊥
-met_no_taker b list i k card to d e within other none below is =
-    ⊎_elim (λ less. none k d less is)
-    (λ more.
-    let last : k ≡ i = omega (arith, below, more) in
-    let same : get_or list k d ≡ get_or list i e = get_or_default list k d e (omega (arith, last, within)) ∙ ap (λ n. get_or list n e) last in
-    other (subst (IsEntryFor b (of_card card to)) same is))
-    (cases_lt k i)
-
 -- no allowed move does
 pub none_takes : (g : GameRules) (b : Board) (list : List Move) (i : ℕ) (card : ℕ) (to : Place) → ListsMoves g b list → length list ≤ i
     → ((j : ℕ) (d : Move) → j < i → IsEntryFor b (of_card card to) (get_or list j d) → ⊥) → AllowsEntry g b (of_card card to) → ⊥
@@ -88,17 +76,6 @@ none_takes g b list i card to lists all none (m, is, allowed) =
     let there = lists.complete m allowed in
     let low = there.1 in
     none there.0 m (omega (arith, low, all)) (subst (IsEntryFor b (of_card card to)) (sym there.2) is)
-
--- no move so far goes home, nor does this one
-pub met_no_home : (list : List Move) (i k : ℕ) (d e : Move) → i < length list → (IsMoveHome (get_or list i e) → ⊥)
-    → ((j : ℕ) (f : Move) → j < i → IsMoveHome (get_or list j f) → ⊥) → k < i + 1 → IsMoveHome (get_or list k d) → ⊥
-met_no_home list i k d e within other none below is =
-    ⊎_elim (λ less. none k d less is)
-    (λ more.
-    let last : k ≡ i = omega (arith, below, more) in
-    let same : get_or list k d ≡ get_or list i e = get_or_default list k d e (omega (arith, last, within)) ∙ ap (λ n. get_or list n e) last in
-    other (subst IsMoveHome same is))
-    (cases_lt k i)
 
 -- no allowed move does
 pub none_goes : (g : GameRules) (b : Board) (list : List Move) (i : ℕ) → ListsMoves g b list → length list ≤ i
