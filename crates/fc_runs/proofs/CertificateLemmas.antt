@@ -4,7 +4,6 @@ use Rattle.fc_io.specs.Moves.{TakesBytes, TakesFront}
 use Rattle.fc_moves.specs.declared.steps.Move.{Move}
 use Rattle.fc_moves.specs.GameRules.{GameRules, IsGame, IsPositionOf}
 use Rattle.fc_bound.specs.declared.kinds.BoundKind.{BoundKind}
-use Rattle.fc_answers.specs.Answer.{HasGivenUp}
 use Rattle.fc_answers.specs.declared.answers.Answer.{Answer}
 use Rattle.fc_answers.specs.declared.answers.Verdict.{Verdict}
 use Rattle.fc_answers.specs.declared.answers.Verdict.TheVariants.{Shortest, Won, CannotWin, GaveUp}
@@ -21,7 +20,7 @@ use Rattle.fc_cert.specs.Claim.{IsWrittenAs, IsWrittenWith, written_form, writte
 use Rattle.fc_cert.specs.Content.{Content, bytes_of}
 use Rattle.fc_cert.proofs.CertifiedLemmas.{backed_certified, backed_spelled}
 use Rattle.fc_cert.specs.declared.faults.CertFault.TheVariants.{Write}
-use Rattle.fc_cert.specs.Writing.{IsUncertified, SinkState, WritesAnswer}
+use Rattle.fc_cert.specs.Writing.{SinkState, WritesAnswer}
 use Rattle.fc_board_runs.specs.Devices.{Device, IsUntouched}
 use Rattle.fc_board_runs.specs.declared.faults.Output.TheVariants.{Answer as of_answer, Cert as of_certificate}
 use Rattle.fc_board_runs.specs.declared.faults.ProgramFault.TheVariants.{Write as unwritten}
@@ -201,16 +200,6 @@ few_written p verdict sink few is =
     let many = is.too_long.many in
     let within = is.too_long.within in
     omega (arith, few, many, within)
-
--- an answer without a certificate that can be certified gave up
-gave_up_of : (p : Problem) (verdict : Verdict) (table : Option Listing) → IsCertifiable p (record { verdict = verdict; table = table })
-    → IsUncertified (record { verdict = verdict; table = table }) → HasGivenUp verdict
-gave_up_of p verdict None answers is = answers.backed
-gave_up_of p verdict (Some table) answers (inl none) = absurd (cc)
-gave_up_of p verdict (Some table) answers (inr gave_up) = gave_up
-
-pub without_certificate : (p : Problem) (answered : Answer) → IsCertifiable p answered → IsUncertified answered → HasGivenUp answered.verdict
-without_certificate p answered answers is = gave_up_of p answered.verdict answered.table answers is
 
 module _ (is_decided : Verdict → Type 0) where
   -- a certificate that is cut short leaves the board unanswered

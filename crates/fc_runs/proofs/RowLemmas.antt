@@ -1,5 +1,5 @@
 -- The floors of rows, and what their certificates rest on.
-use Rattle.std.proofs.Common.{rules, ◌≡◌, ◌≢◌, ℕ, suc, List, [], ◌∷◌, ◌++◌, true, false, Option, Some, None, refl, sym, subst, arith}
+use Rattle.std.proofs.Common.{rules, ◌≡◌, ◌≢◌, ℕ, suc, List, [], ◌∷◌, ◌++◌, true, false, Option, Some, None, refl, sym, ap, subst, arith}
 use Rattle.std.specs.Prelude.{All, IfSome, IsSome}
 use Rattle.fc_position.specs.Board.{Board}
 use Rattle.fc_moves.specs.declared.steps.Move.{Move}
@@ -24,59 +24,79 @@ use Rattle.fc_runs.specs.declared.answer_rows.Row.{Row}
 use Rattle.fc_methods.specs.declared.methods.Sought.{Sought}
 use Rattle.fc_methods.specs.declared.methods.Sought.TheVariants.{ByMethod, Best}
 use Rattle.fc_runs.specs.Lists.{list_of}
-use Rattle.fc_runs.specs.Rows.{IsAnswerOf, IsRowOf, IsToldIn, floor_of, told_floor}
+use Rattle.fc_runs.specs.Rows.{IsAnswerOf, IsRowOf, IsToldIn, IsToldLast, KeepsFar, floor_of, told_floor}
 use Rattle.fc_runs.specs.Solving.{IsCertified}
-use Rattle.fc_runs.specs.inner.Rows.{KeepsFar, far_of}
+use Rattle.fc_runs.specs.inner.Rows.{LastKeeps}
+
+-- what a listener of rows hears is kept
+each_kept : (old new : Last) (heard : List Progress) → HearsAll (HearsFar LastKeeps) old heard new
+    → HearsAll (HearsFar KeepsFar) old.far heard new.far
+each_kept old new [] same = ap (λ (l : Last). l.far) same
+each_kept old new (far ∷ heard) (mid, keeps, rest) = (mid.far, keeps, each_kept mid new heard rest)
+
+all_kept : (old new : Last) (heard : List Report) → HearsAll LastKeeps old heard new → HearsAll KeepsFar old.far heard new.far
+all_kept old new [] same = ap (λ (l : Last). l.far) same
+all_kept old new (report ∷ heard) (mid, keeps, rest) = (mid.far, keeps, all_kept mid new heard rest)
+
+pub part_kept : (sought : Sought) (q : QuestionData) (b : Board) (old new : Last) → HearsOfThem LastKeeps sought q b old new
+    → HearsOfThem KeepsFar sought q b old.far new.far
+part_kept ByMethod q b old new (heard, hears, before) = (heard, each_kept old new heard hears, before)
+part_kept Best q b old new (heard, (hears, so, better)) = (heard, (all_kept old new heard hears, so, better))
+
+pub end_kept : (sought : Sought) (q : QuestionData) (b : Board) (verdict : Verdict) (old new : Last)
+    → HearsVerdict LastKeeps sought q b verdict old new → HearsVerdict KeepsFar sought q b verdict old.far new.far
+end_kept ByMethod q b verdict old new (heard, hears, is) = (heard, each_kept old new heard hears, is)
+end_kept Best q b verdict old new (front, far, (hears, so, better), told_of, listed) =
+    (front, far, (all_kept old new (front ++ how_far far ∷ []) hears, so, better), told_of, listed)
 
 -- who keeps what is told last of a board has a floor of it, if it has any
-last_floor : (g : GameRules) (b : Board) (old new : Last) (heard : List Progress) → HearsAll (HearsFar KeepsFar) old heard new
-    → TellFloors g b heard → IfSome (told_floor old.far) (IsFloor g b) → IfSome (told_floor new.far) (IsFloor g b)
-last_floor g b old new [] same floors floor = subst (λ (l : Last). IfSome (told_floor l.far) (IsFloor g b)) (sym same) floor
+last_floor : (g : GameRules) (b : Board) (old new : Option Far) (heard : List Progress) → HearsAll (HearsFar KeepsFar) old heard new
+    → TellFloors g b heard → IfSome (told_floor old) (IsFloor g b) → IfSome (told_floor new) (IsFloor g b)
+last_floor g b old new [] same floors floor = subst (λ o. IfSome (told_floor o) (IsFloor g b)) (sym same) floor
 last_floor g b old new (far ∷ heard) (mid, keeps, rest) (least, floors) floor =
     last_floor g b mid new heard rest floors (subst (λ o. IfSome (told_floor o) (IsFloor g b)) (sym keeps) least)
 
 -- who keeps what is told last keeps something, once something was told
-kept : (old new : Last) (heard : List Progress) → HearsAll (HearsFar KeepsFar) old heard new → IsSome old.far → IsSome new.far
-kept old new [] same some = subst (λ (l : Last). IsSome l.far) (sym same) some
+kept : (old new : Option Far) (heard : List Progress) → HearsAll (HearsFar KeepsFar) old heard new → IsSome old → IsSome new
+kept old new [] same some = subst IsSome (sym same) some
 kept old new (far ∷ heard) (mid, keeps, rest) some = kept mid new heard rest (subst IsSome (sym keeps) refl)
 
-heard_last : (old new : Last) (heard : List Progress) → HearsAll (HearsFar KeepsFar) old heard new → heard ≢ [] → IsSome new.far
+heard_last : (old new : Option Far) (heard : List Progress) → HearsAll (HearsFar KeepsFar) old heard new → heard ≢ [] → IsSome new
 heard_last old new [] same some = absurd (some refl)
 heard_last old new (far ∷ heard) (mid, keeps, rest) some = kept mid new heard rest (subst IsSome (sym keeps) refl)
 
 -- so does who hears of the searches for a best answer
-best_kept : (old new : Last) (heard : List Report) → HearsAll KeepsFar old heard new → IsSome old.far → IsSome new.far
-best_kept old new [] same some = subst (λ (l : Last). IsSome l.far) (sym same) some
+best_kept : (old new : Option Far) (heard : List Report) → HearsAll KeepsFar old heard new → IsSome old → IsSome new
+best_kept old new [] same some = subst IsSome (sym same) some
 best_kept old new (how_far far ∷ heard) (mid, keeps, rest) some = best_kept mid new heard rest (subst IsSome (sym keeps) refl)
-best_kept old new (Better moves floor ∷ heard) (mid, keeps, rest) some =
-    best_kept mid new heard rest (subst (λ (l : Last). IsSome l.far) (sym keeps) some)
+best_kept old new (Better moves floor ∷ heard) (mid, keeps, rest) some = best_kept mid new heard rest (subst IsSome (sym keeps) some)
 
-heard_end : (old new : Last) (heard : List Report) (far : Progress) → HearsAll KeepsFar old (heard ++ how_far far ∷ []) new → IsSome new.far
+heard_end : (old new : Option Far) (heard : List Report) (far : Progress) → HearsAll KeepsFar old (heard ++ how_far far ∷ []) new → IsSome new
 heard_end old new [] far (mid, keeps, rest) = best_kept mid new [] rest (subst IsSome (sym keeps) refl)
 heard_end old new (first ∷ heard) far (mid, keeps, rest) = heard_end mid new heard far rest
 
 -- and so has who keeps what is told last of the searches for a best answer
-best_last_floor : (q : QuestionData) (b : Board) (old new : Last) (heard : List Report) → HearsAll KeepsFar old heard new → All (IsSo q b) heard
-    → IfSome (told_floor old.far) (IsFloor q.game b) → IfSome (told_floor new.far) (IsFloor q.game b)
-best_last_floor q b old new [] same so floor = subst (λ (l : Last). IfSome (told_floor l.far) (IsFloor q.game b)) (sym same) floor
+best_last_floor : (q : QuestionData) (b : Board) (old new : Option Far) (heard : List Report) → HearsAll KeepsFar old heard new
+    → All (IsSo q b) heard → IfSome (told_floor old) (IsFloor q.game b) → IfSome (told_floor new) (IsFloor q.game b)
+best_last_floor q b old new [] same so floor = subst (λ o. IfSome (told_floor o) (IsFloor q.game b)) (sym same) floor
 best_last_floor q b old new (how_far far ∷ heard) (mid, keeps, rest) so floor =
     let first : IsTold q b far = so 0 (how_far far) (omega arith) in
     best_last_floor q b mid new heard rest (λ k d within. so (suc k) d (omega (arith, within)))
     (subst (λ o. IfSome (told_floor o) (IsFloor q.game b)) (sym keeps) first.least)
 best_last_floor q b old new (Better moves least ∷ heard) (mid, keeps, rest) so floor =
     best_last_floor q b mid new heard rest (λ k d within. so (suc k) d (omega (arith, within)))
-    (subst (λ (l : Last). IfSome (told_floor l.far) (IsFloor q.game b)) (sym keeps) floor)
+    (subst (λ o. IfSome (told_floor o) (IsFloor q.game b)) (sym keeps) floor)
 
 -- whatever is sought, who keeps what is told last has a floor of the board, if it has any
-pub heard_floor : (sought : Sought) (q : QuestionData) (b : Board) (old new : Last) → HearsOfThem KeepsFar sought q b old new
-    → IfSome (told_floor old.far) (IsFloor q.game b) → IfSome (told_floor new.far) (IsFloor q.game b)
+pub heard_floor : (sought : Sought) (q : QuestionData) (b : Board) (old new : Option Far) → HearsOfThem KeepsFar sought q b old new
+    → IfSome (told_floor old) (IsFloor q.game b) → IfSome (told_floor new) (IsFloor q.game b)
 heard_floor ByMethod q b old new (heard, hears, before) floor =
     last_floor q.game b old new heard hears (at_most_floors (problem_of q b) heard before) floor
 heard_floor Best q b old new (heard, (hears, so, better)) floor = best_last_floor q b old new heard hears so floor
 
 -- and keeps something, once there is a verdict
-pub heard_some : (sought : Sought) (q : QuestionData) (b : Board) (verdict : Verdict) (old new : Last)
-    → HearsVerdict KeepsFar sought q b verdict old new → IsSome new.far
+heard_some : (sought : Sought) (q : QuestionData) (b : Board) (verdict : Verdict) (old new : Option Far)
+    → HearsVerdict KeepsFar sought q b verdict old new → IsSome new
 heard_some ByMethod q b verdict old new (heard, hears, is) = heard_last old new heard hears is.some
 heard_some Best q b verdict old new (front, far, these, told_of, listed) = heard_end old new front far these.0
 
@@ -134,9 +154,9 @@ pub record HasParts (q : QuestionData) (answer : Option Outcome) (moves : Option
   pub far : row.far ≡ last
 
 row_of_parts : (q : QuestionData) (b : Board) (cert : Option Device) (told : Option Outcome) (list : Option (List Move)) (far : Option Far)
-    (row : Row) → HasParts q told list far row → IsToldIn q b cert told list → (IsSome told → IsSome far)
+    (row : Row) → HasParts q told list far row → IsToldIn q b cert told list → (IsSome told → IsSome far) → IsToldLast q b told far
     → IfSome (told_floor far) (IsFloor q.game b) → IsRowOf q b cert row
-row_of_parts q b cert told list far row parts right searched floor =
+row_of_parts q b cert told list far row parts right searched heard floor =
     let with_list : IsToldIn q b cert told row.list = subst (λ o. IsToldIn q b cert told o) (sym parts.list) right in
     let with_told : IsToldIn q b cert row.told row.list = subst (λ o. IsToldIn q b cert o row.list) (sym parts.told) with_list in
     let with_far : IfSome (told_floor row.far) (IsFloor q.game b) = subst (λ o. IfSome (told_floor o) (IsFloor q.game b)) (sym parts.far) floor in
@@ -144,20 +164,24 @@ row_of_parts q b cert told list far row parts right searched floor =
       budget = parts.budget;
       told = with_told;
       searched = λ some. subst IsSome (sym parts.far) (searched (subst IsSome parts.told some));
+      heard = subst (IsToldLast q b row.told) (sym parts.far) (subst (λ o. IsToldLast q b o far) (sym parts.told) heard);
       floor = row_floor q b cert row.told row.list row.far with_told with_far;
     }
 
 -- the row of a verdict that was sought
 pub verdict_row : (q : QuestionData) (b : Board) (cert : Option Device) (verdict : Verdict) (far : Option Far) (row : Row)
     → HasParts q (Some (outcome_of verdict)) (list_of verdict) far row → IsVerdictFor q b verdict
-    → IfSome cert (IsCertified (problem_of q b) verdict) → IsSome far → IfSome (told_floor far) (IsFloor q.game b) → IsRowOf q b cert row
-verdict_row q b cert verdict far row parts decided certified some floor =
+    → IfSome cert (IsCertified (problem_of q b) verdict) → HearsVerdict KeepsFar q.sought q b verdict None far
+    → IfSome (told_floor far) (IsFloor q.game b) → IsRowOf q b cert row
+verdict_row q b cert verdict far row parts decided certified heard floor =
     row_of_parts q b cert (Some (outcome_of verdict)) (list_of verdict) far row parts
-    record { verdict = verdict; decided = decided; certified = certified; answer = refl; listed = refl } (λ _. some) floor
+    record { verdict = verdict; decided = decided; certified = certified; answer = refl; listed = refl }
+    (λ _. heard_some q.sought q b verdict None far heard) (verdict, refl, heard) floor
 
 -- and that of want of memory
 pub memory_row : (q : QuestionData) (b : Board) (cert : Option Device) (far : Option Far) (row : Row)
-    → HasParts q None None far row → IfSome cert IsUntouched → IfSome (told_floor far) (IsFloor q.game b) → IsRowOf q b cert row
-memory_row q b cert far row parts untouched floor =
+    → HasParts q None None far row → IfSome cert IsUntouched → HearsOfThem KeepsFar q.sought q b None far
+    → IfSome (told_floor far) (IsFloor q.game b) → IsRowOf q b cert row
+memory_row q b cert far row parts untouched heard floor =
     row_of_parts q b cert None None far row parts (refl, untouched)
-    (λ some. let no : false ≡ true = some in absurd (search rules)) floor
+    (λ some. let no : false ≡ true = some in absurd (search rules)) heard floor

@@ -7,9 +7,11 @@ use Rattle.fc_answers.specs.declared.answers.Outcome.{Outcome}
 use Rattle.fc_answers.specs.declared.answers.Outcome.TheVariants.{Shortest, Won, CannotWin, GaveUp}
 use Rattle.fc_answers.specs.declared.answers.Verdict.{Verdict}
 use Rattle.fc_answers.specs.Verdict.{outcome_of}
-use Rattle.fc_best.specs.Answering.{IsVerdictFor}
+use Rattle.fc_best.specs.Answering.{HearsOfThem, HearsVerdict, IsVerdictFor}
 use Rattle.fc_best.specs.Best.{IsFloor}
 use Rattle.fc_search.specs.Problem.{problem_of}
+use Rattle.fc_search.specs.Watch.{Better, Far as how_far, Report}
+use Rattle.fc_search.specs.declared.listeners.Progress.{Progress}
 use Rattle.fc_board_runs.specs.declared.faults.Output.TheVariants.{Cert as of_certificate}
 use Rattle.fc_board_runs.specs.declared.faults.ProgramFault.{ProgramFault}
 use Rattle.fc_board_runs.specs.declared.faults.ProgramFault.TheVariants.{Write}
@@ -80,12 +82,28 @@ abbrev pub IsToldIn : QuestionData → Board → Option Device → Option Outcom
 IsToldIn q b cert None list = (list ≡ None) × IfSome cert IsUntouched
 IsToldIn q b cert (Some told) list = IsAnswerOf q b cert told list
 
--- a row is right for a board: its budget is the question's, and what it tells is right; where memory wasn't wanted, there is what
--- the search told last; and no list of fewer moves than its floor wins. Nothing is promised of the other numbers that a search told
+-- what a row keeps of how far searches are
+abbrev pub far_of : Progress → Far
+far_of far = record { classes = far.classes; turns = far.turns; most_open = far.most_open; at_least = far.at_least }
+
+-- who keeps what is told last keeps how far searches are, and no list
+abbrev pub KeepsFar : Option Far → Report → Option Far → Type 0
+KeepsFar old (how_far far) new = new ≡ Some (far_of far)
+KeepsFar old (Better moves floor) new = new ≡ old
+
+-- this is what the searches of a question from a board told last: at their end, where the answer is theirs; or until memory was
+-- wanted, if they told anything
+abbrev pub IsToldLast : QuestionData → Board → Option Outcome → Option Far → Type 0
+IsToldLast q b (Some told) far = (verdict : Verdict) × (told ≡ outcome_of verdict) × HearsVerdict KeepsFar q.sought q b verdict None far
+IsToldLast q b None far = HearsOfThem KeepsFar q.sought q b None far
+
+-- a row is right for a board: its budget is the question's, and what it tells is right; its numbers are what its searches told last,
+-- which is something where memory wasn't wanted; and no list of fewer moves than its floor wins
 pub record IsRowOf (q : QuestionData) (b : Board) (cert : Option Device) (row : Row) : Type 0 where
   pub budget : row.budget ≡ q.method.strategy.budget
   pub told : IsToldIn q b cert row.told row.list
   pub searched : IsSome row.told → IsSome row.far
+  pub heard : IsToldLast q b row.told row.far
   pub floor : IfSome (floor_of row.told row.far) (IsFloor q.game b)
 
 -- why a board has no row: the certificate of what was sought couldn't be written, of which a front may be

@@ -153,9 +153,9 @@ struct Last {
 }
 
 impl Listener for Last {
-    ghost use Rattle.fc_runs.specs.inner.Rows.{KeepsFar};
+    ghost use Rattle.fc_runs.specs.inner.Rows.{LastKeeps};
 
-    ghost hears = { KeepsFar };
+    ghost hears = { LastKeeps };
 
     fn hear(&mut self, far: Progress) {
         self.far = Some(Far {
@@ -171,8 +171,8 @@ impl Listener for Last {
 
 /// The row of a position of the question's game. Where `cert` is given, the certificate of the answer is
 /// written to it, whole; giving up has none, and want of memory neither. No list of moves wins in fewer than the row's floor, also
-/// where the search gave up or memory was wanted. Of the classes, the turns and the most that was open nothing is proved: these
-/// numbers are only tested.
+/// where the search gave up or memory was wanted. What it tells of its searches is what they told last; of those for a best answer
+/// the classes, the turns and the most that was open are only tested.
 ///
 /// # Errors
 /// A certificate that can't be written, of which a front may be.

@@ -2,7 +2,7 @@ use Rattle.std.proofs.Common.{Some, None, refl, sym, rules}
 use Rattle.fc_search.specs.Problem.{problem_of}
 use Rattle.fc_board_runs.specs.Devices.{Device, IsUntouched}
 use Rattle.fc_runs.specs.declared.answer_rows.Last.{Last}
-use Rattle.fc_runs.proofs.RowLemmas.{heard_floor, heard_some, memory_row, verdict_row}
+use Rattle.fc_runs.proofs.RowLemmas.{end_kept, heard_floor, memory_row, part_kept, verdict_row}
 use Rattle.fc_runs.proofs.answer_rows.certified_row.Goals as goal
 
 pub returns-in_default-clause-row : goal.returns-in_default-clause-row
@@ -15,7 +15,8 @@ returns-in_default-clause-row g c =
     let untouched : IsUntouched cert = search rules in
     memory_row q b (Some cert) last.far c.row_of_memory.result
     record { budget = c.row_of_memory.ensures.budget; told = c.row_of_memory.ensures.told; list = c.row_of_memory.ensures.list; far = c.row_of_memory.ensures.far }
-    untouched (heard_floor q.sought q b nothing last c.answer.ensures.heard tt)
+    untouched (part_kept q.sought q b nothing last c.answer.ensures.heard)
+    (heard_floor q.sought q b None last.far (part_kept q.sought q b nothing last c.answer.ensures.heard) tt)
 
 pub returns-in_default-write_certificate-clause-fault : goal.returns-in_default-write_certificate-clause-fault
 returns-in_default-write_certificate-clause-fault g c =
@@ -38,4 +39,5 @@ returns-clause-row g c =
     record { budget = c.row_of.ensures.budget; told = c.row_of.ensures.told; list = c.row_of.ensures.list; far = c.row_of.ensures.far }
     answered.right
     (c.in-Ok-write_certificate.ensures.certified p (sym c.game.ensures.value) c.requires.position (answered.certifiable refl))
-    (heard_some q.sought q b c.in-Ok.answer.verdict nothing last answered.ended) (heard_floor q.sought q b nothing last c.answer.ensures.heard tt)
+    (end_kept q.sought q b c.in-Ok.answer.verdict nothing last answered.ended)
+    (heard_floor q.sought q b None last.far (part_kept q.sought q b nothing last c.answer.ensures.heard) tt)
