@@ -1,2 +1,3 @@
 -- What this crate's own functions and proofs speak of, and no public promise.
 pub mod Tally
+pub mod Watching

@@ -64,14 +64,30 @@ pub fn moves_played<G: Game>(
 ) -> Result<Vec<Move>, ProgramFault>
     requires position { IsPositionOf (G.game game.now) start.now }
 {
-    if list.len() > LONGEST_MOVES {
-        return Err(ProgramFault::TooLong(Input::Moves));
-    }
     let wants = ListWants::Line;
     let question = ListQuestion {
         wants,
         has_sequences,
     };
+    moves_asked(alloc, game, start, list, question)
+}
+
+/// The one-card moves of those entries of a list that are asked of.
+///
+/// # Errors
+/// What a replay of these entries refuses, and fewer than are asked of.
+pub fn moves_asked<G: Game>(
+    alloc: Global,
+    game: &G,
+    start: &Position,
+    list: &[u8],
+    question: ListQuestion,
+) -> Result<Vec<Move>, ProgramFault>
+    requires position { IsPositionOf (G.game game.now) start.now }
+{
+    if list.len() > LONGEST_MOVES {
+        return Err(ProgramFault::TooLong(Input::Moves));
+    }
     list_moves(alloc, game, start, list, question)
 }
 

@@ -21,7 +21,7 @@ enum Form {
 }
 
 /// The entries of a list, each on the line of the text where it stands; whether they may move several cards. Where lines of
-/// the text tell moves in words, others have no entry.
+/// the text tell moves in words, of the others those have entries that are entries in small letters, and nothing else.
 ///
 /// # Errors
 /// Want of memory.
@@ -55,11 +55,24 @@ fn push_entries(
         Form::Letters(..) => Ok(()),
         Form::InWords(has_sequences) => match told_entry(line) {
             Some(entry) => push_told(list, entry, has_sequences),
+            None if is_in_letters(line) => list.extend_from_slice(without_number(line)),
             None => Ok(()),
         },
         Form::Sayings if line.starts_with(SAYING) => push_saying(list, line),
         Form::Sayings => Ok(()),
     }
+}
+
+// Whether a line has entries in small letters alone, as no drawn board has: its cards are in capitals.
+fn is_in_letters(line: &[u8]) -> bool {
+    let mut count = 0usize;
+    for token in Tokens::new(without_number(line), MoveGaps) {
+        if read_pair(token).is_none() || token.iter().any(|byte| byte.is_ascii_uppercase()) {
+            return false;
+        }
+        count = count.saturating_add(1);
+    }
+    count > 0
 }
 
 // A line of letters without the number of its first move, as `solve` prints it on a terminal.

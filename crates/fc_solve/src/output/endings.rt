@@ -82,6 +82,7 @@ pub fn tell_of_file(rt: &HostRuntime, fault: ProgramFault, path: &str, error: io
         return Ending::Fault(ProgramFault::Memory);
     }
     let status = tell(rt, &fault);
+    let path = path.escape_debug();
     let _told = eprintln!(rt; "fc_solve: {path}: {error}");
     Ending::Told(status)
 }
@@ -98,6 +99,7 @@ pub fn tell_of_reading(rt: &HostRuntime, input: Input, path: &str) -> Ending {
     } else {
         "it can't be read to its end"
     };
+    let path = path.escape_debug();
     let _told = eprintln!(rt; "fc_solve: {path}: {why}");
     Ending::Told(status)
 }

@@ -1,18 +1,22 @@
 //! An answer as it was found: all that is printed of it is made of this.
 
-ghost use Rattle.std.specs.Prelude.{◌<◌, ◌^◌, All, length};
-ghost use Rattle.fc_answers.specs.Verdict.{CanBeWritten};
+ghost use Rattle.std.specs.Prelude.{◌≡◌, ◌<◌, ◌^◌, Some, None, All, IfOk, length};
+ghost use Rattle.fc_answers.specs.Verdict.{CanBeWritten, outcome_of};
+ghost use Rattle.fc_board_runs.specs.Devices.{IsHandedBack, change, lent};
 ghost use Rattle.fc_moves.specs.GameRules.{IsPositionOf};
 ghost use Rattle.fc_moves.specs.MoveText.{HasText};
+ghost use Rattle.fc_runs.specs.Lists.{list_of};
+ghost use Rattle.fc_runs.specs.Rows.{IsAnswerOf};
 
-use crate::output::certs::CertFile;
+use crate::output::certs::UNWRITTEN;
 use fc_answer_text::{moves_text, outcome_of, verdict_status, verdict_text};
 use fc_answers::{Answer, MoveList, Outcome, Verdict};
 use fc_best::{Listener, Wants, answer};
+use fc_io::Sink;
 use fc_methods::Question;
 use fc_moves::{Game, Move};
 use fc_position::Position;
-use fc_runs::{Output, ProgramFault, write_certificate};
+use fc_runs::{ProgramFault, write_certificate};
 use std::alloc::{AllocError, Global};
 use std::marker::Model;
 
@@ -51,6 +55,14 @@ impl Answered {
         } else {
             Verdict::Won { moves: list, floor }
         };
+        Answered::of(alloc, verdict)
+    }
+
+    // The answer of this verdict.
+    fn of(alloc: Global, verdict: Verdict) -> Result<Answered, AllocError>
+        requires written { CanBeWritten verdict }
+        ensures verdict { IfOk result (λ told. told ≡ verdict) }
+    {
         let text = verdict_text(alloc, &verdict)?;
         let letters = letters_of(alloc, &verdict)?;
         Ok(Answered {
@@ -135,44 +147,60 @@ fn letters_of(alloc: Global, verdict: &Verdict) -> Result<Vec<u8>, AllocError>
     }
 }
 
-/// What a question is answered of a board. Where a file is given for it, its certificate is written there.
+/// What a question is answered of a board. Where a sink is given for it, the certificate is written there, whole, before anything of
+/// the answer can be told.
 ///
 /// # Errors
 /// In this order: want of memory; a certificate that can't be written, of which a front may be.
-pub fn find_answer<G: Game + Drop, L: Listener>(
+pub fn find_answer<G: Game + Drop, C: Sink, L: Listener>(
     alloc: Global,
     question: &Question<G>,
     start: &Position,
-    cert: Option<&mut CertFile>,
+    cert: Option<&mut C>,
     listener: &mut L,
 ) -> Result<Answered, ProgramFault>
     requires position { IsPositionOf question.now.game start.now }
+    ensures answer { IfOk result (λ told. IsAnswerOf question.now start.now (lent C.held C.has_failed cert.entry cert.exit) (outcome_of told) (list_of told)) }
+    ensures back { IsHandedBack cert.entry cert.exit }
 {
-    let wants = if cert.is_some() {
-        Wants::Table
-    } else {
-        Wants::Verdict
-    };
-    let answer = answer(alloc, question, start, wants, listener)?;
-    certified(alloc, question.game(), answer, cert)
+    match cert {
+        Some(cert) => certified(alloc, question, start, cert, listener),
+        None => plain(alloc, question, start, listener),
+    }
 }
 
-// The answer with its lines, once its certificate is written where a file is given for it.
-fn certified<G: Game>(
+// The answer of a board of which no certificate is asked for.
+fn plain<G: Game + Drop, L: Listener>(
     alloc: Global,
-    game: &G,
-    answer: Answer,
-    cert: Option<&mut CertFile>,
+    question: &Question<G>,
+    start: &Position,
+    listener: &mut L,
 ) -> Result<Answered, ProgramFault>
-    requires written { CanBeWritten answer.verdict }
+    requires position { IsPositionOf question.now.game start.now }
+    ensures answer { IfOk result (λ told. IsAnswerOf question.now start.now None (outcome_of told) (list_of told)) }
 {
+    let answer = answer(alloc, question, start, Wants::Verdict, listener)?;
+    Ok(Answered::of(alloc, answer.verdict)?)
+}
+
+// The answer of a board, once its certificate is written.
+fn certified<G: Game + Drop, C: Sink, L: Listener>(
+    alloc: Global,
+    question: &Question<G>,
+    start: &Position,
+    cert: &mut C,
+    listener: &mut L,
+) -> Result<Answered, ProgramFault>
+    requires position { IsPositionOf question.now.game start.now }
+    ensures answer { IfOk result (λ told. IsAnswerOf question.now start.now (Some (change C.held C.has_failed cert.old cert.new)) (outcome_of told) (list_of told)) }
+{
+    let answer = answer(alloc, question, start, Wants::Table, listener)?;
     let text = verdict_text(alloc, &answer.verdict)?;
     let letters = letters_of(alloc, &answer.verdict)?;
-    if let Some(cert) = cert {
-        let Ok(_) = write_certificate(game, &answer, cert) else {
-            return Err(ProgramFault::Write(Output::Cert));
-        };
-    }
+    // (after what may want memory, so that it is written where the answer can be told)
+    let Ok(_) = write_certificate(question.game(), &answer, cert) else {
+        return Err(UNWRITTEN);
+    };
     Ok(Answered {
         verdict: answer.verdict,
         text,

@@ -7,7 +7,7 @@ use fc_methods::HomeRule;
 use fc_moves::{Game, Move};
 use fc_position::Position;
 use fc_review::count_by_hand;
-use fc_runs::ProgramFault;
+use fc_runs::{Input, ProgramFault};
 use std::alloc::Global;
 
 /// How many entries of an answer's list are left to a player's hands, where cards go home by themselves by this rule; nothing of an
@@ -38,7 +38,7 @@ pub fn by_hand_of<G: Game>(
     requires position { IsPositionOf (G.game game.now) start.now }
 {
     if moves.len() > u32::MAX as usize {
-        return Err(Ending::Fault(ProgramFault::Memory));
+        return Err(Ending::Fault(ProgramFault::TooLong(Input::Moves)));
     }
     match count_by_hand(alloc, game, start, moves, rule) {
         Ok(count) => Ok(count as u64),

@@ -11,7 +11,7 @@ use crate::output::outputs::Out;
 use fc_io::write_all;
 use fc_moves::{Game, Move};
 use fc_position::Position;
-use fc_runs::{LONGEST_MOVES, ProgramFault};
+use fc_runs::{Input, LONGEST_MOVES, ProgramFault};
 use fc_sequences::{Pair, expand, gather, print_pair};
 use std::alloc::{AllocError, Global};
 
@@ -82,12 +82,13 @@ fn entries_of<G: Game>(
     ensures texts { IfOk result (λ pairs. All HasPairText pairs.items) }
 {
     if moves.len() > LONGEST_MOVES {
-        return Ok(Vec::new(alloc));
+        return Err(Ending::Fault(ProgramFault::TooLong(Input::Moves)));
     }
     // (the moves are those of an answer, so each is allowed)
     match gather(alloc, game, start, moves) {
         Ok(pairs) if pairs.len() <= LONGEST_MOVES => Ok(pairs),
-        _ => Err(Ending::Fault(ProgramFault::Memory)),
+        Ok(_) => Err(Ending::Fault(ProgramFault::TooLong(Input::Moves))),
+        Err(_) => Err(Ending::Fault(ProgramFault::Memory)),
     }
 }
 

@@ -1,5 +1,6 @@
 //! Standard output, as the program writes it.
 
+use crate::output::certs::{CertName, UNWRITTEN};
 use crate::output::endings::{Ending, tell};
 use crate::output::watching::Line;
 use fc_io::{Failed, Sink};
@@ -7,13 +8,16 @@ use fc_runs::{Output, ProgramFault};
 use std::io;
 use std::io::Write;
 
-/// Standard output: what stands on the line of a terminal is taken away before it is written.
+/// Standard output: what stands on the line of a terminal is taken away before it is written, and a certificate takes its name.
 #[derive(Drop)]
 pub struct Out<'a> {
     rt: &'a HostRuntime,
     line: Option<&'a Line<'a>>,
+    cert: Option<&'a CertName>,
     has_failed: bool,
     is_closed: bool,
+    // Whether nothing is written since a certificate couldn't take its name.
+    has_no_cert: bool,
 }
 
 impl<'a> Out<'a> {
@@ -22,8 +26,10 @@ impl<'a> Out<'a> {
         Out {
             rt,
             line: None,
+            cert: None,
             has_failed: false,
             is_closed: false,
+            has_no_cert: false,
         }
     }
 
@@ -32,6 +38,12 @@ impl<'a> Out<'a> {
         let mut out = Out::new(rt);
         out.line = Some(line);
         out
+    }
+
+    /// What is written goes behind a certificate, which takes its name before.
+    pub fn behind(mut self, cert: Option<&'a CertName>) -> Self {
+        self.cert = cert;
+        self
     }
 
     /// Ends as a run did that wrote here: where whoever reads the output has closed it, as `head` does, nothing is said.
@@ -45,6 +57,7 @@ impl<'a> Out<'a> {
     /// Ends with a fault of a run that wrote here.
     pub fn ending_of(&self, fault: ProgramFault) -> Ending {
         match fault {
+            ProgramFault::Write(Output::Answer) if self.has_no_cert => Ending::Fault(UNWRITTEN),
             ProgramFault::Write(Output::Answer) if self.is_closed => Ending::Told(fault.status()),
             _ => Ending::Fault(fault),
         }
@@ -72,6 +85,13 @@ impl Sink for Out<'_> {
         }
         if let Some(line) = self.line {
             line.clear();
+        }
+        if let Some(cert) = self.cert
+            && !cert.take(self.rt)
+        {
+            self.has_no_cert = true;
+            self.has_failed = true;
+            return Err(Failed);
         }
         let mut out = self.rt.stdout();
         match out.write(piece) {

@@ -3,6 +3,7 @@ ghost use Rattle.fc_moves.specs.GameRules.{IsPositionOf};
 
 use crate::input::moves::{moves_played, push_letters};
 use crate::output::answer_objects::{Name, list_line};
+use crate::output::endings::Ending;
 use crate::output::hand_counts::by_hand_of;
 use fc_methods::HomeRule;
 use fc_moves::{Game, Move, allows, apply};
@@ -27,8 +28,10 @@ pub fn replay_line<G: Game>(
 {
     let moves = moves_played(alloc, game, start, list, has_sequences)?;
     let is_won = is_won_by(game, start, moves.as_slice());
-    let Ok(by_hand) = by_hand_of(alloc, game, start, moves.as_slice(), HomeRule::FREE) else {
-        return Err(ProgramFault::Memory);
+    let by_hand = match by_hand_of(alloc, game, start, moves.as_slice(), HomeRule::FREE) {
+        Ok(count) => count,
+        Err(Ending::Fault(fault)) => return Err(fault),
+        Err(Ending::Told(_)) => return Err(ProgramFault::Memory),
     };
     let mut letters = Vec::new(alloc);
     push_letters(&mut letters, moves.as_slice())?;

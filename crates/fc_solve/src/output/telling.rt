@@ -3,6 +3,7 @@ ghost use Rattle.fc_moves.specs.GameRules.{IsPositionOf};
 
 use crate::output::answer_forms::{Manner, tell_in_form, tell_whole};
 use crate::output::answer_objects::{Beside, Name, Searched, answer_line};
+use crate::output::certs::{CertName, UNWRITTEN};
 use crate::output::endings::Ending;
 use crate::output::found_answers::Answered;
 use crate::output::hand_counts::by_hand_told;
@@ -25,6 +26,8 @@ pub struct Telling<'a> {
     pub has_stats: bool,
     /// Whether a link follows.
     pub has_link: bool,
+    /// The name of the answer's certificate, which takes it before an answer is written.
+    pub cert: Option<&'a CertName>,
 }
 
 impl Telling<'_> {
@@ -83,6 +86,11 @@ impl Telling<'_> {
     ) -> Result<(), Ending>
         requires position { IsPositionOf (G.game game.now) start.now }
     {
+        if let Some(cert) = self.cert
+            && !cert.take(rt)
+        {
+            return Err(Ending::Fault(UNWRITTEN));
+        }
         if let MovesForm::Json = self.manner.form {
             let line = answer_line(rt.alloc(), self.name, answered, None, beside)?;
             return tell_whole(rt, line.as_bytes());

@@ -169,7 +169,9 @@ impl<'a> Teller<'a> {
 }
 
 impl Listener for Teller<'_> {
-    ghost hears = { λ _ _ _. Unit {0} };
+    ghost use Rattle.fc_solve.specs.inner.Watching.{KeepsLast};
+
+    ghost hears = { λ old report new. KeepsLast old.last report new.last };
 
     fn hear(&mut self, far: Progress) {
         if self.is_shown && self.is_due(far) {

@@ -1,13 +1,13 @@
 //! `solve` and `best`: a board is answered, and it is told how far the searches are.
 ghost use Rattle.fc_moves.specs.GameRules.{IsPositionOf};
 
-use crate::input::apart::keep_apart;
+use crate::input::apart::{Held, keep_apart};
 use crate::input::board_sources::{find_board, read_start};
 use crate::input::command_games::InGame;
 use crate::output::advice::{advise_best, advise_method};
 use crate::output::answer_forms::Manner;
 use crate::output::answer_objects::Name;
-use crate::output::certs::CertFile;
+use crate::output::certs::{CertFile, CertName};
 use crate::output::endings::{Ending, no_budget, tell_of_long_certificate};
 use crate::output::found_answers::find_answer;
 use crate::output::outputs::Out;
@@ -81,13 +81,13 @@ impl Request<'_> {
     fn perform<G: Game + Drop>(&self, rt: &HostRuntime, game: &G) -> Result<u8, Ending> {
         let source = find_board(rt, &self.board)?;
         let deal = source.deal();
-        let mut cert = match self.cert {
-            Some(path) => {
-                keep_apart(rt, path, source.path())?;
-                Some(CertFile::new(rt, path)?)
-            }
-            None => None,
-        };
+        if let Some(path) = self.cert {
+            let board = Held {
+                path: source.path(),
+                name: "the board",
+            };
+            keep_apart(rt, path, &[board])?;
+        }
         // (before anything is read)
         let Some(method) = self.method else {
             return Err(no_budget(rt, self.sought));
@@ -96,17 +96,35 @@ impl Request<'_> {
         let line = Line::new(rt, deal);
         let mut teller = Teller::new(&line, rt.stderr().is_terminal() && !self.is_quiet);
         let question = Question::new(game, self.sought, method);
-        let status = self.answer(rt, &question, &start, cert.as_mut(), &mut teller)?;
+        let status = match self.cert {
+            Some(path) => self.certify(rt, path, &question, &start, &mut teller)?,
+            None => self.answer(rt, &question, &start, None, None, &mut teller)?,
+        };
         match self.sought {
             Sought::ByMethod => advise_method(rt, &teller, &self.game, method, status),
             Sought::Best => advise_best(rt, &teller, status),
         }
-        match (self.cert, &cert) {
-            (Some(path), Some(cert)) if status <= 1 && !cert.has_bytes() => {
-                Ok(tell_of_long_certificate(rt, path))
-            }
-            _ => Ok(status),
+        Ok(status)
+    }
+
+    // The same as `answer`, with the certificate of this path, which is asked for before the search.
+    fn certify<G: Game + Drop>(
+        &self,
+        rt: &HostRuntime,
+        path: &str,
+        question: &Question<G>,
+        start: &Position,
+        teller: &mut Teller<'_>,
+    ) -> Result<u8, Ending>
+        requires position { IsPositionOf question.now.game start.now }
+    {
+        let (name, mut cert) = CertName::new(rt, path)?;
+        let ended = self.answer(rt, question, start, Some(&name), Some(&mut cert), teller);
+        let status = name.end(rt, ended)?;
+        if status <= 1 && !cert.has_bytes() {
+            return Ok(tell_of_long_certificate(rt, path));
         }
+        Ok(status)
     }
 
     // Searches, tells on a line how far the searches are, and writes the answer.
@@ -115,6 +133,7 @@ impl Request<'_> {
         rt: &HostRuntime,
         question: &Question<G>,
         start: &Position,
+        name: Option<&CertName>,
         cert: Option<&mut CertFile>,
         teller: &mut Teller<'_>,
     ) -> Result<u8, Ending>
@@ -127,12 +146,13 @@ impl Request<'_> {
             manner: Manner::new(rt, self.form, self.colours),
             has_stats: self.has_stats,
             has_link: self.has_link,
+            cert: name,
         };
         if self.is_each {
             return answer_each(rt, telling, question, start, cert, teller);
         }
         if telling.is_plain() {
-            let mut out = Out::after(rt, line);
+            let mut out = Out::after(rt, line).behind(name);
             let ran = run_answer(rt.alloc(), question, start, &mut out, cert, teller);
             line.clear();
             return out.end_of(ran);

@@ -101,8 +101,9 @@ fn unread(fault: ReadFault) -> ProgramFault {
 fn letters_of(alloc: Global, bytes: &[u8]) -> Result<Option<Vec<u8>>, AllocError>
     requires limit { length bytes.now ≤ LONGEST_CERTIFICATE }
 {
+    // (it is accepted, so memory alone can be wanted)
     let Ok(cert) = Certificate::read(alloc, bytes) else {
-        return Ok(None);
+        return Err(AllocError);
     };
     if cert.kind() == NO_LIST {
         return Ok(None);

@@ -8,6 +8,7 @@ use crate::input::moves::push_letters;
 use crate::output::advice::advise_best;
 use crate::output::answer_forms::tell_whole;
 use crate::output::answer_objects::{Beside, Name, answer_line};
+use crate::output::certs::CertFile;
 use crate::output::endings::{Ending, tell_of_great_budget};
 use crate::output::found_answers::{Answered, find_answer};
 use crate::output::hand_counts::by_hand_told;
@@ -35,7 +36,7 @@ impl InGame for HintWords<'_> {
         let line = Line::new(rt, deal);
         let mut teller = Teller::new(&line, rt.stderr().is_terminal() && !self.is_quiet);
         let question = Question::new(game, Sought::Best, method);
-        let answered = find_answer(rt.alloc(), &question, &start, None, &mut teller)?;
+        let answered = find_answer(rt.alloc(), &question, &start, None::<&mut CertFile>, &mut teller)?;
         line.clear();
         if self.is_json {
             let beside = Beside {

@@ -6,7 +6,7 @@ use crate::input::board_lists::{is_blank, is_rule, read_list};
 use crate::input::board_sources::{deal_for, read_board_below};
 use crate::output::answer_objects::{Name, fault_line, row_line};
 use crate::output::cert_names::cert_name;
-use crate::output::certs::CertFile;
+use crate::output::certs::{CertFile, CertName, UNWRITTEN};
 use crate::output::endings::{Ending, REFUSED, tell_of_file, tell_of_long_certificate};
 use crate::output::hand_counts::by_hand_of;
 use crate::output::listing_tallies::{ANSWERS, NO_BOARD, RowTally};
@@ -260,25 +260,20 @@ impl<'a, G: Game + Drop> Desk<'a, G> {
         let alloc = self.rt.alloc();
         let name = cert_name(alloc, name)?;
         let path = format!(in alloc; "{folder}/{name}.cert")?;
-        keep_apart(self.rt, path.as_str(), None)?;
-        let (mut cert, part) = CertFile::part(self.rt, path.as_str())?;
+        keep_apart(self.rt, path.as_str(), &[])?;
+        let (name, mut cert) = CertName::beside(self.rt, path.as_str())?;
         let row = answer_row(alloc, self.question, start, Some(&mut cert));
         let is_answered = row.as_ref().is_ok_and(|row| row.status() <= 1);
         if is_answered && !cert.has_bytes() {
             let status = tell_of_long_certificate(self.rt, path.as_str());
             self.status = self.status.max(status);
         }
-        let kept = if is_answered && cert.has_bytes() {
-            fs::rename(self.rt, part.as_str(), path.as_str())
+        let is_named = !is_answered || name.take(self.rt);
+        name.end(self.rt, Ok(0))?;
+        if is_named {
+            Ok(row?)
         } else {
-            fs::remove_file(self.rt, part.as_str())
-        };
-        match kept {
-            Ok(()) => Ok(row?),
-            Err(error) => {
-                let unwritten = ProgramFault::Write(Output::Cert);
-                Err(tell_of_file(self.rt, unwritten, path.as_str(), error))
-            }
+            Err(Ending::Fault(UNWRITTEN))
         }
     }
 

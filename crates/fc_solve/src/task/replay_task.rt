@@ -3,12 +3,12 @@ ghost use Rattle.fc_moves.specs.GameRules.{IsPositionOf};
 
 use crate::input::board_sources::{find_board, read_start};
 use crate::input::command_games::InGame;
-use crate::input::moves::{find_file, moves_played, push_letters, read_moves, tell_end};
+use crate::input::moves::{find_file, moves_asked, push_letters, read_moves, tell_end};
 use crate::input::pair_lists::expand_list;
 use crate::input::printed_lists::entries_alone;
 use crate::output::answer_forms::tell_whole;
 use crate::output::answer_objects::{Name, fault_line};
-use crate::output::endings::Ending;
+use crate::output::endings::{Ending, REFUSED};
 use crate::output::entry_pages::{EntryPage, write_entries};
 use crate::output::links::{PageLink, tell_link};
 use crate::output::list_hints::tell_list_hint;
@@ -163,11 +163,18 @@ fn link_list<G: Game>(
 ) -> Result<(), Ending>
     requires position { IsPositionOf (G.game game.now) start.now }
 {
-    let moves = moves_played(rt.alloc(), game, start, list, words.has_sequences)?;
+    // (up to the board that is written, where one is asked for)
+    let wants = match words.form {
+        ReplayForm::BoardAfter(entries) => ListWants::BoardAfter(entries),
+        _ => ListWants::Line,
+    };
+    let moves = moves_asked(rt.alloc(), game, start, list, question_of(wants, words))?;
     let mut letters = Vec::new(rt.alloc());
     push_letters(&mut letters, moves.as_slice())?;
     if letters.len() >= LONGEST_LINE {
-        return Err(Ending::Fault(ProgramFault::Write(Output::Answer)));
+        let count = moves.len();
+        let _told = eprintln!(rt; "fc_solve: {count} moves are too many for a link");
+        return Err(Ending::Told(REFUSED));
     }
     let link = PageLink {
         game: words.game,

@@ -5,15 +5,17 @@ ghost use Rattle.fc_moves.specs.GameRules.{IsPositionOf};
 ghost use Rattle.fc_moves.specs.MoveText.{HasText};
 ghost use Rattle.fc_moves.specs.Run.{Run};
 
-use crate::input::apart::keep_apart;
+use crate::input::apart::{Held, INPUT, is_apart};
 use crate::input::board_sources::{find_board, read_start};
 use crate::input::command_games::InGame;
 use crate::input::moves::{find_file, read_moves};
 use crate::input::written_lists::list_of;
 use crate::output::answer_forms::tell_whole;
 use crate::output::answer_objects::Name;
-use crate::output::certs::CertFile;
-use crate::output::endings::{Ending, tell_of_file, tell_of_great_budget};
+use crate::output::certs::{CertFile, CertName, UNWRITTEN};
+use crate::output::endings::{
+    Ending, REFUSED, tell_of_file, tell_of_great_budget, tell_of_long_certificate,
+};
 use crate::output::found_answers::find_answer;
 use crate::output::hand_counts::by_hand_of;
 use crate::output::links::{PageLink, tell_link};
@@ -27,8 +29,8 @@ use fc_best::Unheard;
 use fc_methods::{Question, Sought};
 use fc_moves::{Game, Move, allows, apply};
 use fc_position::Position;
-use fc_review::{Finding, Woven, board_after, find, finding_text, known_after, run_review};
-use fc_runs::{Input, Output, ProgramFault};
+use fc_review::{Finding, Woven, board_after, find, finding_text, known_after, run_review, wins};
+use fc_runs::Input;
 use fc_text::print_board;
 use fc_words::{BoardWords, FileWord, GameWords, ReviewLists, ReviewWords};
 use std::alloc::{AllocError, Global};
@@ -61,16 +63,18 @@ fn review_one<G: Game + Drop>(
     board: &BoardWords<'_>,
     moves: &FileWord<'_>,
 ) -> Result<u8, Ending> {
+    if words.has_all && (words.cert.is_some() || words.certs.is_some()) {
+        let _told = eprintln!(rt; "fc_solve: --all writes no certificates: leave out --cert and --certs");
+        return Err(Ending::Told(REFUSED));
+    }
     let source = find_board(rt, board)?;
     let deal = source.deal();
+    let list_path = path_of(moves);
     let moves = find_file(rt, moves, Input::Moves)?;
-    let mut cert = match words.cert {
-        Some(path) => {
-            keep_apart(rt, path, source.path())?;
-            Some(CertFile::new(rt, path)?)
-        }
-        None => None,
-    };
+    // (before anything is written)
+    if !are_outputs_apart(rt, words, source.path(), list_path)? {
+        return Err(Ending::Told(REFUSED));
+    }
     let Some(method) = words.search.method() else {
         return Err(tell_of_great_budget(rt));
     };
@@ -83,10 +87,99 @@ fn review_one<G: Game + Drop>(
         words,
         name: Name::of(&board.word, deal),
     };
-    let status = answer(rt, told, &question, &start, &list, cert.as_mut())?;
+    let status = match words.cert {
+        Some(path) => certify(rt, path, told, &question, &start, &list)?,
+        None => answer(rt, told, &question, &start, &list, None, None)?,
+    };
     if words.has_link {
         link_list(rt, words.game, game, deal, &start, list.moves.as_slice())?;
     }
+    Ok(status)
+}
+
+// The files that are written to the folder of `--certs`.
+const BOARD_FILES: [&str; 4] = ["before.txt", "before.cert", "after.txt", "after.cert"];
+
+// Whether no output leads to where the board or the list stands, or to another one; else it is said which does.
+fn are_outputs_apart(
+    rt: &HostRuntime,
+    words: &ReviewWords<'_>,
+    board: Option<&str>,
+    list: &str,
+) -> Result<bool, AllocError> {
+    let inputs = [
+        Held {
+            path: board,
+            name: "the board",
+        },
+        Held {
+            path: Some(list),
+            name: "the list",
+        },
+    ];
+    if let Some(path) = words.cert
+        && !is_apart(rt, path, &inputs)
+    {
+        return Ok(false);
+    }
+    let Some(folder) = words.certs else {
+        return Ok(true);
+    };
+    let cert = Held {
+        path: words.cert,
+        name: "the list's certificate",
+    };
+    for name in &BOARD_FILES {
+        if !is_board_apart(rt, folder, name, &inputs, &[cert])? {
+            return Ok(false);
+        }
+    }
+    Ok(true)
+}
+
+// The same of the file of this name in the folder of `--certs`.
+fn is_board_apart(
+    rt: &HostRuntime,
+    folder: &str,
+    name: &str,
+    inputs: &[Held<'_>],
+    outputs: &[Held<'_>],
+) -> Result<bool, AllocError> {
+    let path = format!(in rt.alloc(); "{folder}/{name}")?;
+    Ok(is_apart(rt, path.as_str(), inputs) && is_apart(rt, path.as_str(), outputs))
+}
+
+// The path of the file from which a list is read.
+fn path_of<'a>(word: &FileWord<'a>) -> &'a str {
+    match *word {
+        FileWord::Input => INPUT,
+        FileWord::File(path) => path,
+    }
+}
+
+// Tells what the words ask of a list, and writes its certificate to this path, or says why there is none; the status.
+fn certify<G: Game + Drop>(
+    rt: &HostRuntime,
+    path: &str,
+    told: Told<'_>,
+    question: &Question<G>,
+    start: &Position,
+    list: &Woven,
+) -> Result<u8, Ending>
+    requires position { IsPositionOf question.now.game start.now }
+    requires run { (c : Board) × Run question.now.game start.now list.now.moves.items c }
+    requires texts { All HasText list.now.moves.items }
+{
+    let (name, mut cert) = CertName::new(rt, path)?;
+    let ended = answer(rt, told, question, start, list, Some(&name), Some(&mut cert));
+    let status = name.end(rt, ended)?;
+    if cert.has_bytes() {
+        return Ok(status);
+    }
+    if wins(question.game(), start, list.moves.as_slice()) {
+        return Ok(tell_of_long_certificate(rt, path));
+    }
+    let _told = eprintln!(rt; "fc_solve: {path}: no certificate is written: the list doesn't win");
     Ok(status)
 }
 
@@ -97,13 +190,14 @@ struct Told<'a> {
     name: Name<'a>,
 }
 
-// Tells what the words ask of a list; the status.
+// Tells what the words ask of a list, once its certificate, if one is asked for, has taken its name; the status.
 fn answer<G: Game + Drop>(
     rt: &HostRuntime,
     told: Told<'_>,
     question: &Question<G>,
     start: &Position,
     list: &Woven,
+    name: Option<&CertName>,
     cert: Option<&mut CertFile>,
 ) -> Result<u8, Ending>
     requires position { IsPositionOf question.now.game start.now }
@@ -115,11 +209,16 @@ fn answer<G: Game + Drop>(
         return answer_all(rt, question, start, moves);
     }
     if !words.is_json && words.certs.is_none() {
-        let mut out = Out::new(rt);
+        let mut out = Out::new(rt).behind(name);
         let ran = run_review(alloc, question, start, moves, &mut out, cert);
         return out.end_of(ran);
     }
     let found = found_of(rt, question, start, list, cert)?;
+    if let Some(name) = name
+        && !name.take(rt)
+    {
+        return Err(Ending::Fault(UNWRITTEN));
+    }
     if let Some(folder) = words.certs {
         write_boards(rt, folder, question, start, moves, &found.finding)?;
     }
@@ -236,13 +335,15 @@ fn write_board<G: Game + Drop>(
         return Err(tell_of_file(rt, UNWRITTEN, path.as_str(), error));
     }
     let path = format!(in rt.alloc(); "{folder}/{name}.cert")?;
-    let mut cert = CertFile::new(rt, path.as_str())?;
-    let _answered = find_answer(rt.alloc(), question, board, Some(&mut cert), &mut Unheard)?;
+    let (name, mut cert) = CertName::new(rt, path.as_str())?;
+    let ended = match find_answer(rt.alloc(), question, board, Some(&mut cert), &mut Unheard) {
+        Ok(answered) if name.take(rt) => Ok(answered.status()),
+        Ok(_) => Err(Ending::Fault(UNWRITTEN)),
+        Err(fault) => Err(Ending::Fault(fault)),
+    };
+    name.end(rt, ended)?;
     Ok(())
 }
-
-// Why a run ends whose boards or certificates aren't written.
-const UNWRITTEN: ProgramFault = ProgramFault::Write(Output::Cert);
 
 // Answers the board after each move of a list, a line each: behind a lost board all are lost; the status is that of the last board.
 fn answer_all<G: Game + Drop>(
