@@ -9,5 +9,6 @@ pub mod hint_task;
 pub mod listings;
 pub mod replay_task;
 pub mod review_listings;
+pub mod review_outputs;
 pub mod review_task;
 pub mod show_task;

@@ -7,11 +7,10 @@ use fc_io::{Failed, Sink};
 use fc_runs::{Output, ProgramFault};
 use std::alloc::AllocError;
 use std::cell::Cell;
-use std::fs;
 use std::fs::{File, OpenOptions};
 use std::io::{ErrorKind, Write};
 use std::path::Path;
-use std::process;
+use std::{fs, process};
 
 /// Why a run ends whose certificate isn't written.
 pub const UNWRITTEN: ProgramFault = ProgramFault::Write(Output::Cert);

@@ -36,7 +36,13 @@ impl InGame for HintWords<'_> {
         let line = Line::new(rt, deal);
         let mut teller = Teller::new(&line, rt.stderr().is_terminal() && !self.is_quiet);
         let question = Question::new(game, Sought::Best, method);
-        let answered = find_answer(rt.alloc(), &question, &start, None::<&mut CertFile>, &mut teller)?;
+        let answered = find_answer(
+            rt.alloc(),
+            &question,
+            &start,
+            None::<&mut CertFile>,
+            &mut teller,
+        )?;
         line.clear();
         if self.is_json {
             let beside = Beside {

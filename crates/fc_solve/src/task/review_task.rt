@@ -5,7 +5,6 @@ ghost use Rattle.fc_moves.specs.GameRules.{IsPositionOf};
 ghost use Rattle.fc_moves.specs.MoveText.{HasText};
 ghost use Rattle.fc_moves.specs.Run.{Run};
 
-use crate::input::apart::{Held, INPUT, is_apart};
 use crate::input::board_sources::{find_board, read_start};
 use crate::input::command_games::InGame;
 use crate::input::moves::{find_file, read_moves};
@@ -23,6 +22,7 @@ use crate::output::outputs::Out;
 use crate::output::review_objects::{FoundList, review_line};
 use crate::output::review_texts::{line_of, told_move};
 use crate::task::review_listings::review_files;
+use crate::task::review_outputs::{are_outputs_apart, path_of};
 use fc_answer_text::{moves_text, verdict_status};
 use fc_answers::Verdict;
 use fc_best::Unheard;
@@ -64,7 +64,9 @@ fn review_one<G: Game + Drop>(
     moves: &FileWord<'_>,
 ) -> Result<u8, Ending> {
     if words.has_all && (words.cert.is_some() || words.certs.is_some()) {
-        let _told = eprintln!(rt; "fc_solve: --all writes no certificates: leave out --cert and --certs");
+        let _told = eprintln!(rt;
+            "fc_solve: --all writes no certificates: leave out --cert and --certs"
+        );
         return Err(Ending::Told(REFUSED));
     }
     let source = find_board(rt, board)?;
@@ -89,72 +91,12 @@ fn review_one<G: Game + Drop>(
     };
     let status = match words.cert {
         Some(path) => certify(rt, path, told, &question, &start, &list)?,
-        None => answer(rt, told, &question, &start, &list, None, None)?,
+        None => told.answer(rt, &question, &start, &list, None, None)?,
     };
     if words.has_link {
         link_list(rt, words.game, game, deal, &start, list.moves.as_slice())?;
     }
     Ok(status)
-}
-
-// The files that are written to the folder of `--certs`.
-const BOARD_FILES: [&str; 4] = ["before.txt", "before.cert", "after.txt", "after.cert"];
-
-// Whether no output leads to where the board or the list stands, or to another one; else it is said which does.
-fn are_outputs_apart(
-    rt: &HostRuntime,
-    words: &ReviewWords<'_>,
-    board: Option<&str>,
-    list: &str,
-) -> Result<bool, AllocError> {
-    let inputs = [
-        Held {
-            path: board,
-            name: "the board",
-        },
-        Held {
-            path: Some(list),
-            name: "the list",
-        },
-    ];
-    if let Some(path) = words.cert
-        && !is_apart(rt, path, &inputs)
-    {
-        return Ok(false);
-    }
-    let Some(folder) = words.certs else {
-        return Ok(true);
-    };
-    let cert = Held {
-        path: words.cert,
-        name: "the list's certificate",
-    };
-    for name in &BOARD_FILES {
-        if !is_board_apart(rt, folder, name, &inputs, &[cert])? {
-            return Ok(false);
-        }
-    }
-    Ok(true)
-}
-
-// The same of the file of this name in the folder of `--certs`.
-fn is_board_apart(
-    rt: &HostRuntime,
-    folder: &str,
-    name: &str,
-    inputs: &[Held<'_>],
-    outputs: &[Held<'_>],
-) -> Result<bool, AllocError> {
-    let path = format!(in rt.alloc(); "{folder}/{name}")?;
-    Ok(is_apart(rt, path.as_str(), inputs) && is_apart(rt, path.as_str(), outputs))
-}
-
-// The path of the file from which a list is read.
-fn path_of<'a>(word: &FileWord<'a>) -> &'a str {
-    match *word {
-        FileWord::Input => INPUT,
-        FileWord::File(path) => path,
-    }
 }
 
 // Tells what the words ask of a list, and writes its certificate to this path, or says why there is none; the status.
@@ -171,7 +113,7 @@ fn certify<G: Game + Drop>(
     requires texts { All HasText list.now.moves.items }
 {
     let (name, mut cert) = CertName::new(rt, path)?;
-    let ended = answer(rt, told, question, start, list, Some(&name), Some(&mut cert));
+    let ended = told.answer(rt, question, start, list, Some(&name), Some(&mut cert));
     let status = name.end(rt, ended)?;
     if cert.has_bytes() {
         return Ok(status);
@@ -190,46 +132,48 @@ struct Told<'a> {
     name: Name<'a>,
 }
 
-// Tells what the words ask of a list, once its certificate, if one is asked for, has taken its name; the status.
-fn answer<G: Game + Drop>(
-    rt: &HostRuntime,
-    told: Told<'_>,
-    question: &Question<G>,
-    start: &Position,
-    list: &Woven,
-    name: Option<&CertName>,
-    cert: Option<&mut CertFile>,
-) -> Result<u8, Ending>
-    requires position { IsPositionOf question.now.game start.now }
-    requires run { (c : Board) × Run question.now.game start.now list.now.moves.items c }
-    requires texts { All HasText list.now.moves.items }
-{
-    let (alloc, moves, words) = (rt.alloc(), list.moves.as_slice(), told.words);
-    if words.has_all {
-        return answer_all(rt, question, start, moves);
-    }
-    if !words.is_json && words.certs.is_none() {
-        let mut out = Out::new(rt).behind(name);
-        let ran = run_review(alloc, question, start, moves, &mut out, cert);
-        return out.end_of(ran);
-    }
-    let found = found_of(rt, question, start, list, cert)?;
-    if let Some(name) = name
-        && !name.take(rt)
+impl Told<'_> {
+    // Tells what the words ask of a list, once its certificate, if one is asked for, has taken its name; the status.
+    fn answer<G: Game + Drop>(
+        &self,
+        rt: &HostRuntime,
+        question: &Question<G>,
+        start: &Position,
+        list: &Woven,
+        name: Option<&CertName>,
+        cert: Option<&mut CertFile>,
+    ) -> Result<u8, Ending>
+        requires position { IsPositionOf question.now.game start.now }
+        requires run { (c : Board) × Run question.now.game start.now list.now.moves.items c }
+        requires texts { All HasText list.now.moves.items }
     {
-        return Err(Ending::Fault(UNWRITTEN));
+        let (alloc, moves, words) = (rt.alloc(), list.moves.as_slice(), self.words);
+        if words.has_all {
+            return answer_all(rt, question, start, moves);
+        }
+        if !words.is_json && words.certs.is_none() {
+            let mut out = Out::new(rt).behind(name);
+            let ran = run_review(alloc, question, start, moves, &mut out, cert);
+            return out.end_of(ran);
+        }
+        let found = found_of(rt, question, start, list, cert)?;
+        if let Some(name) = name
+            && !name.take(rt)
+        {
+            return Err(Ending::Fault(UNWRITTEN));
+        }
+        if let Some(folder) = words.certs {
+            write_boards(rt, folder, question, start, moves, &found.finding)?;
+        }
+        if words.is_json {
+            let line = review_line(alloc, &found.reviewed(self.name))?;
+            tell_whole(rt, line.as_bytes())?;
+        } else {
+            let text = finding_text(alloc, question.game(), start, moves, &found.finding)?;
+            tell_whole(rt, text.as_slice())?;
+        }
+        Ok(found.status)
     }
-    if let Some(folder) = words.certs {
-        write_boards(rt, folder, question, start, moves, &found.finding)?;
-    }
-    if words.is_json {
-        let line = review_line(alloc, &found.reviewed(told.name))?;
-        tell_whole(rt, line.as_bytes())?;
-    } else {
-        let text = finding_text(alloc, question.game(), start, moves, &found.finding)?;
-        tell_whole(rt, text.as_slice())?;
-    }
-    Ok(found.status)
 }
 
 // Ends what is told with a link to the list.

@@ -14,7 +14,7 @@ returns-in-Ok g c =
       row = verdict_row q b None c.in-Ok.answer.verdict last.far c.row_of.result
           record { budget = c.row_of.ensures.budget; told = c.row_of.ensures.told; list = c.row_of.ensures.list; far = c.row_of.ensures.far }
           answered.right tt (end_kept q.sought q b c.in-Ok.answer.verdict nothing last answered.ended)
-    (heard_floor q.sought q b None last.far (part_kept q.sought q b nothing last c.answer.ensures.heard) tt);
+          (heard_floor q.sought q b None last.far (part_kept q.sought q b nothing last c.answer.ensures.heard) tt);
     }
 
 pub returns-in-Err : goal.returns-in-Err
@@ -27,5 +27,5 @@ returns-in-Err g c =
       row = memory_row q b None last.far c.row_of_memory.result
           record { budget = c.row_of_memory.ensures.budget; told = c.row_of_memory.ensures.told; list = c.row_of_memory.ensures.list; far = c.row_of_memory.ensures.far }
           tt (part_kept q.sought q b nothing last c.answer.ensures.heard)
-    (heard_floor q.sought q b None last.far (part_kept q.sought q b nothing last c.answer.ensures.heard) tt);
+          (heard_floor q.sought q b None last.far (part_kept q.sought q b nothing last c.answer.ensures.heard) tt);
     }
