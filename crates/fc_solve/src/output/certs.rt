@@ -32,14 +32,18 @@ pub struct CertName {
 impl CertName {
     /// The name of this path, where an empty file is made if there is none; and what takes the certificate.
     pub fn new(rt: &HostRuntime, path: &str) -> Result<(CertName, CertFile), Ending> {
-        match fs::metadata(rt, path) {
-            Ok(metadata) if metadata.is_file() && !is_open_file(rt, path) => {
-                CertName::beside(rt, path)
-            }
-            Ok(metadata) => CertName::in_place(rt, path, metadata.is_file() && metadata.len() > 0),
-            Err(error) if error.kind() == ErrorKind::NotFound => CertName::made(rt, path),
-            Err(_) => CertName::in_place(rt, path, false),
+        let metadata = match fs::metadata(rt, path) {
+            Ok(metadata) => metadata,
+            Err(error) if error.kind() == ErrorKind::NotFound => return CertName::made(rt, path),
+            Err(_) => return CertName::in_place(rt, path, false),
+        };
+        if !metadata.is_file() {
+            return CertName::in_place(rt, path, false);
         }
+        if is_open_file(rt, path)? {
+            return CertName::in_place(rt, path, metadata.len() > 0);
+        }
+        CertName::beside(rt, path)
     }
 
     // The name of what is no plain file, such as a device or a pipe, or is an open one; and whether something stands there.
@@ -144,13 +148,14 @@ fn is_empty(rt: &HostRuntime, path: &str) -> bool {
 }
 
 // Whether a path is an open file's, as `/dev/fd/3` is: it may have no name of its own, and who opened it reads it there.
-fn is_open_file(rt: &HostRuntime, path: &str) -> bool {
+fn is_open_file(rt: &HostRuntime, path: &str) -> Result<bool, AllocError> {
     let Some((folder, _)) = path.rsplit_once('/') else {
-        return false;
+        return Ok(false);
     };
     match Path::new(folder).canonicalize(rt) {
-        Ok(own) => own.to_str().is_some_and(|own| own.starts_with("/proc/")),
-        Err(_) => false,
+        Ok(own) => Ok(own.to_str().is_some_and(|own| own.starts_with("/proc/"))),
+        Err(error) if error.kind() == ErrorKind::OutOfMemory => Err(AllocError),
+        Err(_) => Ok(false),
     }
 }
 
@@ -158,15 +163,17 @@ fn is_open_file(rt: &HostRuntime, path: &str) -> bool {
 fn own_path(rt: &HostRuntime, path: &str) -> Result<String, AllocError> {
     let is_link = match fs::symlink_metadata(rt, path) {
         Ok(metadata) => metadata.is_symlink(),
+        Err(error) if error.kind() == ErrorKind::OutOfMemory => return Err(AllocError),
         Err(_) => false,
     };
-    if is_link
-        && let Ok(own) = Path::new(path).canonicalize(rt)
-        && let Some(own) = own.to_str()
-    {
-        return String::from_str(rt.alloc(), own);
+    if !is_link {
+        return String::from_str(rt.alloc(), path);
     }
-    String::from_str(rt.alloc(), path)
+    match Path::new(path).canonicalize(rt) {
+        Ok(own) => String::from_str(rt.alloc(), own.to_str().unwrap_or(path)),
+        Err(error) if error.kind() == ErrorKind::OutOfMemory => Err(AllocError),
+        Err(_) => String::from_str(rt.alloc(), path),
+    }
 }
 
 /// What takes the bytes of a certificate.
