@@ -162,18 +162,33 @@ module _ (q : QuestionData) (b : Board) where
   listed_told None told P none good same = same
   listed_told (Some moves) told P none good same = absurd (none moves good.0.wins)
 
-  pub lost_told : (s : Standing) (end : Shown) → Stands q b s → s.shown ≡ Some end → end.floor ≡ None → IsToldOf CannotWin s.far
+  pub lost_told : (s : Standing) (end : Shown) → Stands q b s → s.shown ≡ Some end → end.floor ≡ None → IsToldOf q b CannotWin s.far
   lost_told s end (searches, tails, was) same none =
       let so = end_so searches s.shown end same was.shown in
       let lost : NoneWins q.game b = subst (IsShown q.game b) none so.0.0 in
-      record { listed = listed_told s.list s.far.shortest _ lost was.list was.told.shortest; least = tt }
+      record { listed = listed_told s.list s.far.shortest _ lost was.list was.told.shortest; least = tt; shown = tt }
 
-  pub gave_told : (s : Standing) (told : ℕ) → Stands q b s → s.list ≡ None → IsToldOf (GaveUp told) s.far
-  gave_told s told (searches, tails, was) nothing = record { listed = was.told.shortest ∙ ap limit_of nothing; least = tt }
+  pub gave_told : (s : Standing) (end : Shown) (n told : ℕ) → Stands q b s → s.shown ≡ Some end → end.floor ≡ Some n → s.list ≡ None
+      → IsToldOf q b (GaveUp told) s.far
+  gave_told s end n told (searches, tails, was) same floor nothing =
+      let so = end_so searches s.shown end same was.shown in
+      let by : IsFloorOf q searches n = subst (IsShownBy q searches) floor so.1 in
+      let least : s.far.at_least ≡ n =
+      subst (λ f. IfSome f (λ k. s.far.at_least ≡ k)) floor (subst (λ o. IsLeastOf o s.far.at_least) same was.told.least) in
+      record {
+        listed = was.told.shortest ∙ ap limit_of nothing;
+        least = tt;
+        shown = record {
+          searches = searches;
+          asked = was.asked;
+          spent = let all = was.spent in omega (arith, all);
+          shown = subst (IsFloorOf q searches) (sym least) by;
+        };
+      }
 
   pub listed_is_told : (s : Standing) (end : Shown) (moves : List Move) (n : ℕ) (verdict : Verdict) → Stands q b s → s.shown ≡ Some end
       → end.floor ≡ Some n → s.list ≡ Some moves → (length moves ≤ n → verdict ≡ Shortest moves) → (n < length moves → verdict ≡ Won moves n)
-      → IsToldOf verdict s.far
+      → IsToldOf q b verdict s.far
   listed_is_told s end moves n verdict (searches, tails, was) same floor list short long =
       let so = end_so searches s.shown end same was.shown in
       let good : IsGoodList q.game b moves × IsListOf q.game b searches tails moves =
@@ -186,8 +201,8 @@ module _ (q : QuestionData) (b : Board) where
       (λ (le : length moves ≤ n).
       let most = shown moves good.0.wins in
       let equal : s.far.at_least ≡ length moves = omega (arith, least, most, le) in
-      subst (λ v. IsToldOf v s.far) (sym (short le)) (record { listed = count; least = equal }))
-      (λ (more : n < length moves). subst (λ v. IsToldOf v s.far) (sym (long more)) (record { listed = count; least = least }))
+      subst (λ v. IsToldOf q b v s.far) (sym (short le)) (record { listed = count; least = equal; shown = tt }))
+      (λ (more : n < length moves). subst (λ v. IsToldOf q b v s.far) (sym (long more)) (record { listed = count; least = least; shown = tt }))
       (le_or_more (length moves) n)
 
   -- and so is the list with its floor

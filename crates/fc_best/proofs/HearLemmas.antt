@@ -263,7 +263,7 @@ module _ (q : QuestionData) (b : Board) where
 
     -- and of the verdict last
     pub hears_end : (first last : Standing) (old mid new : L) (verdict : Verdict) → HearsOn hears q b first last old mid → hears mid (Far last.far) new
-        → first.list ≡ None → Stands q b last → IsToldOf verdict last.far → list_in last ≡ list_told verdict → HearsToEnd hears q b verdict old new
+        → first.list ≡ None → Stands q b last → IsToldOf q b verdict last.far → list_in last ≡ list_told verdict → HearsToEnd hears q b verdict old new
     hears_end first last old mid new verdict (heard, hearing, (so, rises), list) end none stands of_verdict listed =
         let far : Report = Far last.far in
         let still = no_worse_same far far refl refl in (

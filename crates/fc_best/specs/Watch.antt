@@ -5,7 +5,8 @@ use Rattle.fc_moves.specs.declared.steps.Move.{Move}
 use Rattle.fc_moves.specs.Run.{Wins}
 use Rattle.fc_answers.specs.declared.answers.Verdict.{Verdict}
 use Rattle.fc_answers.specs.declared.answers.Verdict.TheVariants.{Shortest, Won, CannotWin, GaveUp}
-use Rattle.fc_best.specs.Best.{IsFloor}
+use Rattle.fc_best.specs.Best.{IsFloor, IsFloorOf, IsOfQuestion, stored_by}
+use Rattle.fc_search.specs.Search.{State}
 use Rattle.fc_search.specs.declared.listeners.Progress.{Progress}
 use Rattle.fc_methods.specs.Method.{QuestionData}
 use Rattle.fc_search.specs.Watch.{Better, Far, Report, HearsAll}
@@ -65,10 +66,24 @@ list_told (Won moves floor) = Some (moves, floor)
 list_told CannotWin = None
 list_told (GaveUp told) = None
 
--- what is told is of the verdict: how many moves its list has, if it tells one, and its floor, if it tells one
-pub record IsToldOf (verdict : Verdict) (far : Progress) : Type 0 where
+-- one of some searches of the question from the board, which store no more classes than the budget, shows the floor
+pub record IsSearchedFloor (q : QuestionData) (b : Board) (floor : ℕ) : Type 0 where
+  pub searches : List State
+  pub asked : All (IsOfQuestion q b) searches
+  pub spent : stored_by searches ≤ q.method.strategy.budget
+  pub shown : IsFloorOf q searches floor
+
+-- so it is where the verdict gives up
+abbrev pub IfGivesUp : Verdict → Type 0 → Type 0
+IfGivesUp (GaveUp told) so = so
+IfGivesUp verdict so = Unit {0}
+
+-- what is told is of the verdict: how many moves its list has, if it tells one; its floor, if it tells one, and where it gives up the
+-- floor that the searches have shown
+pub record IsToldOf (q : QuestionData) (b : Board) (verdict : Verdict) (far : Progress) : Type 0 where
   pub listed : far.shortest ≡ moves_told verdict
   pub least : IfSome (floor_told verdict) (λ floor. far.at_least ≡ floor)
+  pub shown : IfGivesUp verdict (IsSearchedFloor q b far.at_least)
 
 module _ {L : Type 0} (hears : L → Report → L → Type 0) where
   -- a listener hears these, which are so of searches of the question from the board, and each is no worse than those before it
@@ -82,4 +97,4 @@ module _ {L : Type 0} (hears : L → Report → L → Type 0) where
   -- and hears last of the verdict; the last list that it hears is the verdict's, with its floor, and it hears none where that has none
   abbrev pub HearsToEnd : QuestionData → Board → Verdict → L → L → Type 0
   HearsToEnd q b verdict old new = (heard : List Report) × (far : Progress) × HearsThese q b (heard ++ Far far ∷ []) old new
-      × IsToldOf verdict far × (last_list None heard ≡ list_told verdict)
+      × IsToldOf q b verdict far × (last_list None heard ≡ list_told verdict)

@@ -274,7 +274,7 @@ impl Standing {
         ensures best { (q : QuestionData) (b : Board) → Stands q b self → IsBestAnswer q b result }
         ensures backed { (q : QuestionData) (b : Board) → Stands q b self → IsTrue self.has_table → IsBacked q.game b result }
         ensures bare { (q : QuestionData) (b : Board) → Stands q b self → self.has_table ≡ false → result.table ≡ None }
-        ensures told { (q : QuestionData) (b : Board) → Stands q b self → IsToldOf result.verdict self.far }
+        ensures told { (q : QuestionData) (b : Board) → Stands q b self → IsToldOf q b result.verdict self.far }
         ensures listed { (q : QuestionData) (b : Board) → Stands q b self → list_in self ≡ list_told result.verdict }
     {
         let Standing {
