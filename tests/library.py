@@ -13,14 +13,14 @@ Prints what differs, and how many calls were as they should be. The status is 77
 """
 import ctypes
 import itertools
+import os
 import re
 import subprocess
 import sys
-import tempfile
 
-sys.path.insert(0, "lib")
+sys.dont_write_bytecode = True
+sys.path.insert(0, "lib/python")
 import changes as changed_bytes
-from example import Bytes, Game, Luffaknife, Method
 
 FREE_CELL, BAKERS = (0, 4), (1, 4)
 
@@ -132,6 +132,9 @@ REFUSALS = [
     ("check", (FREE_CELL, ONE_KING, EMPTY + b"!"), "CERT_TRAILING", 0),
     # lists
     ("replay", (FREE_CELL, QUEEN_UNDER_KING, "1a 1h ax"), "NOT_A_MOVE", 3),
+    ("replay", (FREE_CELL, QUEEN_UNDER_KING, "shortest 3\n1a 1h ax"), "NOT_A_MOVE", 3),
+    ("replay", (FREE_CELL, QUEEN_UNDER_KING, "won\n1a 1h ah"), "NOT_A_MOVE", 1),
+    ("replay", (FREE_CELL, QUEEN_UNDER_KING, " won 3, at least 3\n1a 1h ah"), "NOT_A_MOVE", 1),
     ("replay", (FREE_CELL, QUEEN_UNDER_KING, "1a a1 1h"), "NOT_ALLOWED", 2),
     ("replay", (FREE_CELL, QUEEN_UNDER_KING, " " * 1_048_577), "TOO_LONG", 0),
     ("replay_sequences", (FREE_CELL, TWO_CARDS, "1h 13v2x"), "NOT_A_MOVE", 2),
@@ -139,10 +142,6 @@ REFUSALS = [
     ("replay_sequences", (FREE_CELL, TWO_CARDS, " " * 1_048_577), "TOO_LONG", 0),
     ("replay_sequences", ((4, 4), TWO_CARDS, "13v2"), "BAD_GAME", 0),
 ]
-
-
-FREE = ctypes.CDLL(None).free
-FREE.argtypes = [ctypes.c_void_p]
 
 
 class Library:
@@ -153,10 +152,10 @@ class Library:
         if built:
             print("no library stands proved here" if built == 4 else "the library isn't built")
             sys.exit(77 if built == 4 else 1)
-        with tempfile.TemporaryDirectory() as folder:
-            path = f"{folder}/libluffaknife.so"
-            subprocess.run(["cc", "-shared", "-o", path, "-Wl,--whole-archive", "lib/out/libluffaknife.a", "-Wl,--no-whole-archive"], check=True)
-            self.shared = Luffaknife(path).shared
+        os.environ["LUFFAKNIFE_LIBRARY"] = os.path.abspath("lib/out/libluffaknife.so")
+        from luffaknife import calls
+
+        self.calls = calls
         with open("lib/luffaknife.h", encoding="utf-8") as it:
             named = re.findall(r"LUFFAKNIFE_(\w+) = (\d+)", it.read())
         self.names = {int(number): name for name, number in named if not name.startswith("KIND_")}
@@ -167,9 +166,9 @@ class Library:
         the rooms. They hold dots before, and so do 16 bytes behind each, which aren't lent."""
         sizes = sizes or [4096] * (2 if name.endswith("_certified") else 1)
         rooms = [ctypes.create_string_buffer(b"." * (size + 16), size + 16) for size in sizes]
-        words = [word for one in given for word in words_of(one)]
+        words = [word for one in given for word in self.words_of(one)]
         words += [word for room, size in zip(rooms, sizes) for word in (room, ctypes.c_size_t(size))]
-        ended = getattr(self.shared, f"luffaknife_{name}")(*words)
+        ended = self.calls.call(name, *words)
         return *self.told(ended), [room.raw for room in rooms]
 
     def told(self, ended):
@@ -181,24 +180,19 @@ class Library:
     def keep(self, name, given, count=1):
         """The same of a call that leaves what it hands over behind, and what each struct shows, which is freed; it shows `before` before."""
         before = ctypes.create_string_buffer(b"before", 6)
-        kept = [Bytes(ctypes.addressof(before), 6) for _ in range(count)]
-        words = [word for one in given for word in words_of(one)] + [ctypes.byref(it) for it in kept]
-        ended = getattr(self.shared, f"luffaknife_keep_{name}")(*words)
-        shown = [ctypes.string_at(it.bytes, it.len) for it in kept]
-        for it in kept:
-            if it.len and it.bytes != ctypes.addressof(before):
-                FREE(it.bytes)
+        kept = [self.calls.Bytes(ctypes.addressof(before), 6) for _ in range(count)]
+        words = [word for one in given for word in self.words_of(one)] + [ctypes.byref(it) for it in kept]
+        ended = self.calls.call(f"keep_{name}", *words)
+        shown = [ctypes.string_at(it.bytes, it.len) if it.bytes == ctypes.addressof(before) else it.take() for it in kept]
         return *self.told(ended), shown
 
-
-def words_of(given):
-    """What is handed over to C for a game, a number, a text or bytes."""
-    if isinstance(given, tuple):
-        return [Game(*given) if len(given) == 2 else Method(*given)]
-    if isinstance(given, int):
-        return [ctypes.c_uint32(given)]
-    given = given.encode() if isinstance(given, str) else given
-    return [given, ctypes.c_size_t(len(given))]
+    def words_of(self, given):
+        """What is handed over to C for a game, a number, a text or bytes."""
+        if isinstance(given, tuple):
+            return [self.calls.Game(*given) if len(given) == 2 else self.calls.Method(*given)]
+        if isinstance(given, int):
+            return [ctypes.c_uint32(given)]
+        return self.calls.handed(given.encode() if isinstance(given, str) else given)
 
 
 def held(size, *parts):
@@ -229,12 +223,18 @@ def answers(library):
     yield "deal", library.call("deal", (24,)), handed("DONE", DEAL_24)
     yield "replay", library.call("replay", (FREE_CELL, ONE_KING, "AH")), handed("DONE", ALL_HOME_PRINTED)
     yield "replay", library.call("replay", (FREE_CELL, ONE_KING, " \n")), handed("NOT_WON", "")
+    # an answer's text is the list of its moves, whatever its first line tells
+    for text in ("shortest 1\nah\n", "won 2, at least 1\nah", "shortest \n\nah\n"):
+        yield "an answer", library.call("replay", (FREE_CELL, ONE_KING, text)), handed("DONE", ALL_HOME_PRINTED)
+    for text in ("shortest 1\n", "won 1, at least 1"):
+        yield "no moves", library.call("replay", (FREE_CELL, ONE_KING, text)), handed("NOT_WON", "")
 
 
 def sequences(library):
     """Lists whose entries may move several cards: the boards are those of their one-card moves."""
     for board, list_of_entries, moves, number in (
         (TWO_CARDS, "13v2 3h 3h 2h", "1a 13 a3 3h 3h 2h", "DONE"),
+        (TWO_CARDS, "shortest 3\n13v2 3h 3h 2h", "1a 13 a3 3h 3h 2h", "DONE"),
         (TWO_CARDS, "13V2", "1a 13 a3", "NOT_WON"),
         (TWO_CARDS, "13v1 1h", None, None),
         (TWO_CARDS, "1h 1h 2h", "1h 1h 2h", "DONE"),
@@ -250,6 +250,7 @@ def sequences(library):
 REVIEWS = [
     (FREE_CELL, ONE_KING, "ah", "DONE", 0, shortest(1), "won in 1 move, 0 by hand; no list wins in fewer\n"),
     (FREE_CELL, QUEEN_UNDER_KING, "1a 1h ah", "DONE", 0, shortest(3), "won in 3 moves, 1 by hand; no list wins in fewer\n"),
+    (FREE_CELL, QUEEN_UNDER_KING, "shortest 3\n1a 1h ah\n", "DONE", 0, shortest(3), "won in 3 moves, 1 by hand; no list wins in fewer\n"),
     # (a move more than a shortest list; the two that carry the king to the other column are one entry)
     (FREE_CELL, QUEEN_UNDER_KING, "1a a2 1h 2h", "DONE", 0, ("WON", 4, 3, 0),
      "won in 4 moves, 1 by hand; no list wins in fewer than 3; the best one found has 3\n"),

@@ -3,11 +3,13 @@
 //! nothing; the structs are those of `lib/luffaknife.h`.
 #![tactic(auto)]
 
+ghost use Rattle.std.specs.Prelude.{◌≡◌};
 ghost use Rattle.fc_exports.specs.Calls.{Delivers};
 ghost use Rattle.fc_library.specs.Bests.{IsBestCertified, IsBestRefused, IsBestTold};
 ghost use Rattle.fc_library.specs.Checks.{IsCheckTold, IsCheckRefused};
 ghost use Rattle.fc_library.specs.Deals.{IsDealRefused, IsDealTold};
 ghost use Rattle.fc_library.specs.Keeps.{IsTextKept, AreBothKept};
+ghost use Rattle.fc_library.specs.Lists.{moves_in};
 ghost use Rattle.fc_library.specs.Replays.{IsReplayRefused, IsReplayTold};
 ghost use Rattle.fc_library.specs.Reviews.{IsReviewRefused, IsReviewTold};
 ghost use Rattle.fc_library.specs.Rooms.{IsHandedOver, IsHandedOverBoth};
@@ -16,10 +18,21 @@ ghost use Rattle.fc_library.specs.Solves.{IsSolvedCertified, IsSolvedTold, IsSol
 
 use fc_library::{
     Call, GameName, MethodName, best, best_certified, check_bytes, deal_of, hand_over,
-    hand_over_certified, keep, keep_certified, replay_list, replay_sequences, review, solve,
-    solve_certified,
+    hand_over_certified, keep, keep_certified, moves_in, replay_list, replay_sequences, review,
+    solve, solve_certified,
 };
 use std::alloc::Global;
+
+/// The version: 1,000,000 times its first number, 1,000 times its second, and its third.
+pub const VERSION: u32 = 2_000;
+
+/// The version of the library that is called.
+#[unsafe(no_mangle)]
+pub extern "C" fn luffaknife_version() -> u32
+    ensures { result ≡ VERSION }
+{
+    VERSION
+}
 
 /// The columns of a numbered deal, 1 to 1,000,000, a line each: at most 200 bytes.
 #[unsafe(no_mangle)]
@@ -175,7 +188,8 @@ pub extern "C" fn luffaknife_check(
     hand_over(&check_bytes(alloc, name, board, certificate), text)
 }
 
-/// The boards after the first move of a list, the second, and so on, from a board's text, as the program prints them.
+/// The boards after the first move of a list, the second, and so on, from a board's text, as the program prints them. The text of an
+/// answer is a list too: its moves.
 #[unsafe(no_mangle)]
 pub extern "C" fn luffaknife_replay(
     alloc: Global,
@@ -184,9 +198,9 @@ pub extern "C" fn luffaknife_replay(
     list: &[u8],
     text: &mut [u8],
 ) -> Call
-    ensures handed { Delivers (IsReplayTold name board.now list.now) (IsReplayRefused name board.now list.now) (λ told. IsHandedOver told text.old text.new result) }
+    ensures handed { Delivers (IsReplayTold name board.now (moves_in list.now)) (IsReplayRefused name board.now (moves_in list.now)) (λ told. IsHandedOver told text.old text.new result) }
 {
-    hand_over(&replay_list(alloc, name, board, list), text)
+    hand_over(&replay_list(alloc, name, board, moves_in(list)), text)
 }
 
 /// The boards of a list whose entries may move several cards, one-card move by one-card move, as the program prints them.
@@ -198,9 +212,9 @@ pub extern "C" fn luffaknife_replay_sequences(
     list: &[u8],
     text: &mut [u8],
 ) -> Call
-    ensures handed { Delivers (IsSequencesTold name board.now list.now) (IsSequencesRefused name board.now list.now) (λ told. IsHandedOver told text.old text.new result) }
+    ensures handed { Delivers (IsSequencesTold name board.now (moves_in list.now)) (IsSequencesRefused name board.now (moves_in list.now)) (λ told. IsHandedOver told text.old text.new result) }
 {
-    hand_over(&replay_sequences(alloc, name, board, list), text)
+    hand_over(&replay_sequences(alloc, name, board, moves_in(list)), text)
 }
 
 /// Where a list of moves loses, or how good one is that wins, by best answers within a budget: the line that the program prints.
@@ -213,9 +227,9 @@ pub extern "C" fn luffaknife_review(
     list: &[u8],
     text: &mut [u8],
 ) -> Call
-    ensures handed { Delivers (IsReviewTold name board.now list.now budget) (IsReviewRefused name board.now list.now budget) (λ told. IsHandedOver told text.old text.new result) }
+    ensures handed { Delivers (IsReviewTold name board.now (moves_in list.now) budget) (IsReviewRefused name board.now (moves_in list.now) budget) (λ told. IsHandedOver told text.old text.new result) }
 {
-    hand_over(&review(alloc, name, board, list, budget), text)
+    hand_over(&review(alloc, name, board, moves_in(list), budget), text)
 }
 
 /// The same, left in memory of `malloc`'s that is the caller's from then on.
@@ -228,7 +242,7 @@ pub extern "C" fn luffaknife_keep_review(
     list: &[u8],
     text: &mut &'static [u8],
 ) -> Call
-    ensures kept { Delivers (IsReviewTold name board.now list.now budget) (IsReviewRefused name board.now list.now budget) (λ told. IsTextKept told text.old.now text.new.now result) }
+    ensures kept { Delivers (IsReviewTold name board.now (moves_in list.now) budget) (IsReviewRefused name board.now (moves_in list.now) budget) (λ told. IsTextKept told text.old.now text.new.now result) }
 {
-    keep(review(alloc, name, board, list, budget), text)
+    keep(review(alloc, name, board, moves_in(list), budget), text)
 }

@@ -1,2 +1,3 @@
+pub mod BelowLemmas
 pub mod HeldLemmas
 pub mod SpelledLemmas

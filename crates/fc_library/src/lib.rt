@@ -10,6 +10,7 @@ pub use keeps::{keep, keep_certified};
 pub use method_names::{MethodName, method_of};
 pub use rooms::{Call, hand_over, hand_over_certified};
 pub use solves::{solve, solve_certified};
+pub use spelled_lists::moves_in;
 pub use told_answers::{Certified, Told};
 pub use told_checks::check_bytes;
 pub use told_deals::deal_of;
