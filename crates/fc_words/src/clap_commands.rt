@@ -10,7 +10,7 @@ use std::alloc::{AllocError, Global};
 pub(crate) fn command<'a>(alloc: Global) -> Result<Command<'a>, AllocError> {
     let mut command = Command::new(alloc, "fc_solve")
         .bin_name("fc_solve")?
-        .version("0.1.0")
+        .version("0.2.0")
         .about("Solves FreeCell in the fewest moves, or proves that a board can't be won.")
         .after_help(
             "A number or a file alone is answered as by `best`; with --within, --bound or
