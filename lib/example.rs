@@ -1,5 +1,5 @@
 //! Calls luffaknife.h from Rust, and wraps two calls so that they can't be misused.
-//! rustc -O lib/example.rs -L lib/out -l static=luffaknife -o /tmp/example && /tmp/example 941
+//! lib/make; rustc -O lib/example.rs -L lib/out -l static=luffaknife -o /tmp/example && /tmp/example 941
 
 #[repr(C)]
 #[derive(Clone, Copy)]
@@ -93,8 +93,15 @@ fn best(game: Game, budget: u32, board: &str) -> Result<(String, Figures), (u32,
 }
 
 fn main() {
-    let number = std::env::args().nth(1).and_then(|word| word.parse().ok()).unwrap_or(941);
-    let board = deal(number).expect("a deal");
+    // (no deal has the number 0, nor has a word that is none)
+    let number = std::env::args().nth(1).map_or(941, |word| word.parse().unwrap_or(0));
+    let board = match deal(number) {
+        Ok(board) => board,
+        Err((status, _)) => {
+            println!("no deal: {status}");
+            std::process::exit(3);
+        }
+    };
     let (text, figures) = best(FREE_CELL, 500_000, &board).expect("an answer");
     print!("{board}{text}");
     println!("kind {}: {} moves, at least {}, {} positions", figures.kind, figures.moves, figures.floor, figures.budget);

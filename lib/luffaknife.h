@@ -3,14 +3,24 @@
 #ifndef LUFFAKNIFE_H
 #define LUFFAKNIFE_H
 
-/* That of the program: `fc_solve --version`. */
-#define LUFFAKNIFE_VERSION "0.1.0"
+/* Those of the header, and of the program: `fc_solve --version`. That of the library is luffaknife_version(). The number is 1000000
+   times the first, 1000 times the second, and the third. */
+#define LUFFAKNIFE_VERSION "0.2.0"
+#define LUFFAKNIFE_VERSION_NUMBER 2000
 
 /* A call takes some 415 kB of the stack, one that solves by a method 440 kB, as measured. */
 
 #include <stddef.h>
 #include <stdint.h>
 #include <stdlib.h>
+
+#if defined(__cplusplus) || (defined(__STDC_VERSION__) && __STDC_VERSION__ >= 199901L)
+#define LUFFAKNIFE_INLINE static inline
+#elif defined(__GNUC__)
+#define LUFFAKNIFE_INLINE static __inline__
+#else
+#define LUFFAKNIFE_INLINE static
+#endif
 
 #ifdef __cplusplus
 extern "C" {
@@ -119,12 +129,63 @@ struct luffaknife_bytes {
 #define LUFFAKNIFE_NO_BYTES {(const uint8_t *)"", 0}
 
 /* Frees them, and leaves LUFFAKNIFE_NO_BYTES there: the struct may be handed in again, or freed again. */
-static inline void luffaknife_free(struct luffaknife_bytes *kept) {
+LUFFAKNIFE_INLINE void luffaknife_free(struct luffaknife_bytes *kept) {
     if (kept->len)
-        free((void *)kept->bytes);
+        free((void *)(uintptr_t)kept->bytes);
     kept->bytes = (const uint8_t *)"";
     kept->len = 0;
 }
+
+/* The name of a status, such as "NOT_ALLOWED"; "?" of a number that is none. */
+LUFFAKNIFE_INLINE const char *luffaknife_status_name(uint32_t status) {
+    static const char *const names[] = {
+        "DONE", "CANNOT_WIN", "GAVE_UP", "NOT_WON", "?", "?", "?", "?", "?", "?", "?", "?", "?", "?", "?", "?",
+        "BAD_GAME", "BAD_DEAL", "BAD_BUDGET", "NO_MEMORY", "NO_ROOM", "TOO_LONG", "NOT_A_MOVE", "NOT_ALLOWED", "TOO_MANY_WAYS",
+        "BAD_RULE", "BAD_BOUND", "BAD_WEIGHT", "BAD_EXPANSION", "?", "?", "?",
+        "BOARD_TOO_LONG", "NOT_A_CARD", "NOT_A_FOUNDATION", "TOO_MANY_CELLS", "TOO_MANY_COLUMNS", "REPEATED_LINE", "REPEATED_CARD",
+        "MISSING_CARD", "?", "?", "?", "?", "?", "?", "?", "?",
+        "CERT_SHORT", "CERT_BAD_MAGIC", "CERT_BAD_CELLS", "CERT_BAD_RULE", "CERT_BAD_BOUND", "CERT_BAD_KIND", "CERT_BAD_FLOOR",
+        "CERT_BAD_MOVE", "CERT_BAD_RECORD", "CERT_ORDER", "CERT_LABEL", "CERT_TRAILING", "CERT_OTHER_GAME", "CERT_NOT_ALLOWED",
+        "CERT_NOT_HOME", "CERT_START_OPEN", "CERT_WON_LISTED", "CERT_OPEN"};
+    return status < sizeof names / sizeof *names ? names[status] : "?";
+}
+
+/* A move in numbers: where the card lies and where it goes. 0 to 7 are the columns, 8 to 11 the cells, 12 is home. */
+struct luffaknife_move {
+    uint8_t from;
+    uint8_t to;
+};
+
+/* The number of a place by its letter; 255 of a letter that is none. */
+LUFFAKNIFE_INLINE uint8_t luffaknife_place(uint8_t letter) {
+    if (letter >= '1' && letter <= '8')
+        return (uint8_t)(letter - '1');
+    if (letter >= 'a' && letter <= 'd')
+        return (uint8_t)(letter - 'a' + 8);
+    return letter == 'h' ? 12 : 255;
+}
+
+/* The moves of an answer's text, as `best` and `solve` hand it over, put into a room; how many there are, whether or not there was room
+   for them: none of a text that tells no list. */
+LUFFAKNIFE_INLINE size_t luffaknife_moves(const uint8_t *text, size_t text_len, struct luffaknife_move *moves, size_t moves_room) {
+    size_t at = 0, count;
+    while (at < text_len && text[at] != '\n')
+        at++;
+    at++;
+    for (count = 0; at + 1 < text_len && text[at] != '\n'; count++) {
+        if (count < moves_room) {
+            moves[count].from = luffaknife_place(text[at]);
+            moves[count].to = luffaknife_place(text[at + 1]);
+        }
+        at += 2;
+        if (at < text_len && text[at] == ' ')
+            at++;
+    }
+    return count;
+}
+
+/* LUFFAKNIFE_VERSION_NUMBER of the library that is called. */
+uint32_t luffaknife_version(void);
 
 /* The columns of a numbered deal, a line each: 200 bytes at most. It is a board's text. */
 struct luffaknife_call luffaknife_deal(uint32_t number, uint8_t *text, size_t text_room);
@@ -167,7 +228,8 @@ struct luffaknife_call luffaknife_keep_solve_certified(struct luffaknife_game ga
 struct luffaknife_call luffaknife_check(struct luffaknife_game game, const uint8_t *board, size_t board_len,
                                         const uint8_t *certificate, size_t certificate_len, uint8_t *text, size_t text_room);
 
-/* The boards after the first move of a list, the second, and so on, as `fc_solve replay` prints them: some 250 bytes each. */
+/* The boards after the first move of a list, the second, and so on, as `fc_solve replay` prints them: some 250 bytes each. Here and
+   below a list may be the text of an answer that `best` or `solve` hands over: its moves are taken. */
 struct luffaknife_call luffaknife_replay(struct luffaknife_game game, const uint8_t *board, size_t board_len, const uint8_t *list,
                                          size_t list_len, uint8_t *text, size_t text_room);
 
