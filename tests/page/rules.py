@@ -19,17 +19,15 @@ import os
 import random
 import subprocess
 import sys
-import tempfile
 from contextlib import redirect_stdout
 
 HERE = os.path.dirname(os.path.abspath(__file__))
 TOP = os.path.dirname(os.path.dirname(HERE))
 sys.dont_write_bytecode = True
-sys.path[:0] = [HERE, os.path.join(TOP, "tests", "hostile"), os.path.join(TOP, "lib")]
+sys.path[:0] = [HERE, os.path.join(TOP, "tests", "hostile"), os.path.join(TOP, "lib", "python")]
 import browsers
 
 browsers.selenium()
-import example
 import runs
 
 PLACES = "12345678abcd"
@@ -143,14 +141,16 @@ def moves(count, seed):
     return not wrong
 
 
-def wrong_by_library(task):
+def wrong_by_library(way):
     """What is wrong with the moves that are allowed from each board of a way, as the library says."""
-    path, (deal, _, texts, allowed, _) = task
-    replay, size = example.Luffaknife(path).shared.luffaknife_replay, ctypes.c_size_t
-    game, room, tried = example.Game(0, 4), ctypes.create_string_buffer(4096), [(it, it.encode()) for it in candidates()]
+    from luffaknife import calls
+
+    deal, _, texts, allowed, _ = way
+    size = ctypes.c_size_t(4096)
+    game, room, tried = calls.Game(0, 4), ctypes.create_string_buffer(size.value), [(it, it.encode()) for it in candidates()]
     for at, text in enumerate(texts):
-        board = text.encode()
-        told = [move for move, it in tried if replay(game, board, size(len(board)), it, size(2), room, size(4096)).status <= 3]
+        board = calls.handed(text.encode())
+        told = [move for move, it in tried if calls.call("replay", game, *board, *calls.handed(it), room, size).status <= 3]
         if told != allowed[at]:
             return f"deal {deal}, board {at}: {told}, {allowed[at]}\n{text}"
     return None
@@ -160,11 +160,9 @@ def every(count, seed):
     made = subprocess.run(["lib/make", "--over"], cwd=TOP, capture_output=True, check=False).returncode
     if made == 4:
         browsers.skip("no library stands proved here")
-    with tempfile.TemporaryDirectory() as folder:
-        path = f"{folder}/libluffaknife.so"
-        subprocess.run(["cc", "-shared", "-o", path, "-Wl,--whole-archive", f"{TOP}/lib/out/libluffaknife.a", "-Wl,--no-whole-archive"], check=True)
-        given = ways(int(count), seed)
-        wrong = [it for it in runs.side_by_side(wrong_by_library, [(path, it) for it in given]) if it]
+    os.environ["LUFFAKNIFE_LIBRARY"] = os.path.join(TOP, "lib", "out", "libluffaknife.so")
+    given = ways(int(count), seed)
+    wrong = [it for it in runs.side_by_side(wrong_by_library, given) if it]
     print(f"seed {seed}: the moves that are allowed from {sum(len(it[2]) for it in given)} boards of {count} random ways: {'the same' if not wrong else 'NOT THE SAME'}")
     print("".join(f"{it}\n" for it in wrong[:5]), end="")
     return not wrong
