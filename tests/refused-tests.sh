@@ -6,6 +6,7 @@
 set -u
 program=$1
 word=${2-}
+[ -x "$program" ] || command -v rt >/dev/null || { echo "no tests are built here"; exit 77; }
 folder=$(mktemp -d) || exit 1
 trap 'rm -rf "$folder"' EXIT
 cc -shared -fPIC -O1 -o "$folder/refused.so" "$(dirname "$0")/refused.c" -ldl || exit 1
