@@ -20,10 +20,12 @@ sys.path.insert(0, os.path.join(TOP, "gallery"))
 import asking
 import rows as gallery
 
-# How many rows are asked anew: of those by the default budget, and of those with digests, where an answer within 1M takes ten times
-# as long as one within 100k.
-DEFAULT, DRAWN = "500k", 40
-CERTIFIED_DRAWN = {"100k": 16, "1M": 4}
+# How many rows are asked anew: of those without digests, and of those with them, where an answer within 1M takes ten times as long as one
+# within 100k; and of how many rows one list is played.
+FEW = bool(os.environ.get("few"))
+DRAWN = {"500k": 4, "4M": 1} if FEW else {"500k": 40, "4M": 2}
+CERTIFIED_DRAWN = {"100k": 2} if FEW else {"100k": 16, "1M": 4}
+PLAYED = 10 if FEW else 1
 NUMBER = re.compile("[1-9][0-9]*")
 
 
@@ -91,7 +93,7 @@ def wrong_loss(row):
 def drawn(rows, seed):
     """Some rows that the seed picks."""
     numbers = random.Random(seed)
-    sets = [([it for it in rows if not it.sha256 and it.budget == DEFAULT], DRAWN)]
+    sets = [([it for it in rows if not it.sha256 and it.budget == budget], count) for budget, count in DRAWN.items()]
     sets += [([it for it in rows if it.sha256 and it.budget == budget and it.answer != "can't be won"], count) for budget, count in CERTIFIED_DRAWN.items()]
     return [it for some, count in sets for it in sorted(numbers.sample(some, min(count, len(some))))]
 
@@ -121,8 +123,8 @@ def main(seed):
         is_well = [
             report("each deal up to the last has a row, and one", wrong_files()),
             report("each row is one, with its list and its certificate", [f"deal {it.deal}: {wrong_row(it)}" for it in rows if wrong_row(it)]),
-            report("each list wins in as many moves as its row says", found(wrong_list, rows, pool)),
-            report("each kept certificate is accepted", found(wrong_kept, has_kept, pool) + ["one has no row"] * (len(kept) > len(has_kept))),
+            report("each list wins in as many moves as its row says", found(wrong_list, rows[::PLAYED], pool)),
+            report("each kept certificate is accepted", found(wrong_kept, has_kept[::PLAYED], pool) + ["one has no row"] * (len(kept) > len(has_kept))),
             report("rows that the commit draws are told again", [f"deal {row.deal}: {it}" for row, it in told if it], f", seed {seed}"),
             report("the pages tell the rows' figures", module("figures").differences()),
         ]

@@ -9,13 +9,15 @@ trap 'rm -f "$out" "$errors"' EXIT
 
 want=0
 [ -f "$case/status" ] && want=$(cat "$case/status")
+wanted=$case/stdout
+[ -n "${few:-}" ] && [ -f "$case/stdout.few" ] && wanted=$case/stdout.few
 told=/dev/null
 [ -f "$case/stderr" ] && told=$case/stderr
 sh "$case/cmd" >"$out" 2>"$errors" </dev/null
 status=$?
 if [ "$status" -eq 77 ]; then
   echo "case $1: skipped: $(head -n 1 "$out")"
-elif [ "$status" -eq "$want" ] && cmp -s "$out" "$case/stdout" && cmp -s "$errors" "$told"; then
+elif [ "$status" -eq "$want" ] && cmp -s "$out" "$wanted" && cmp -s "$errors" "$told"; then
   echo "case $1: passed"
 else
   echo "case $1: FAILED"
