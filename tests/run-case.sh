@@ -7,6 +7,13 @@ out=$(mktemp) || exit 1
 errors=$(mktemp) || exit 1
 trap 'rm -f "$out" "$errors"' EXIT
 
+# (what others want they look for themselves)
+for program in python3 cc; do
+  if grep -qw "$program" "$case/cmd" && ! command -v "$program" >/dev/null; then
+    echo "case $1: skipped: there is no $program"
+    exit
+  fi
+done
 want=0
 [ -f "$case/status" ] && want=$(cat "$case/status")
 wanted=$case/stdout
