@@ -1,7 +1,7 @@
 #!/usr/bin/env python3
 """Makes release/ of what ./test, or a build, left in this folder, or compares what is built with what is released.
 
-usage, at the top of the repository:  release.py           makes release/ anew
+usage, at the top of the repository:  release.py           makes release/ anew, and page/solver.js of it
                                       release.py --check   over what the gate built: says where a released file isn't what is built
 
 It takes the proved program of crates/fc_solve/out/, and from lib/out/ the library for other programs and its WebAssembly, each with the
@@ -100,6 +100,7 @@ def make():
     write(SUMS, "".join(digests(files).values()).encode())
     write(SOURCES, "".join(sources().values()).encode())
     write(README, TEXT.encode())
+    subprocess.run(["tools/page_solver.py", "--write"], check=True)
 
 
 def differing(of):

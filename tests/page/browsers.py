@@ -64,6 +64,8 @@ class Chromium:
         leave_network()
         self.driver = webdriver.Chrome(service=Service(program("chromedriver")), options=options)
         self.driver.set_script_timeout(120)
+        self.forget = lambda: None
+        self.stored()
 
     def __enter__(self):
         return self
@@ -79,11 +81,30 @@ class Chromium:
         features = [{"name": "prefers-color-scheme", "value": name}, {"name": "prefers-reduced-motion", "value": "reduce"}]
         self.driver.execute_cdp_cmd("Emulation.setEmulatedMedia", {"features": features})
 
-    def open(self, fragment=""):
-        """The page with this fragment, loaded anew, with all rows."""
+    def before(self, source):
+        """A script that runs before those of each page, until what this hands over is called."""
+        told = self.driver.execute_cdp_cmd("Page.addScriptToEvaluateOnNewDocument", {"source": source})
+        return lambda: self.driver.execute_cdp_cmd("Page.removeScriptToEvaluateOnNewDocument", told)
+
+    def stored(self, value=None):
+        """What the browser keeps of earlier visits when a page is opened: nothing but this, or whatever the page left there."""
+        self.keep()
+        told = f"localStorage.setItem('luffaknife', {json.dumps(json.dumps(value))})" if value else ""
+        self.forget = self.before(f"try {{ localStorage.clear(); {told} }} catch {{}}")
+
+    def keep(self):
+        """From now on the browser keeps what the page left there."""
+        self.forget()
+        self.forget = lambda: None
+
+    def open(self, fragment="", all_rows=False):
+        """The page with this fragment, loaded anew, with the row of its deal, or with all."""
         self.driver.get("about:blank")
         self.driver.get(PAGE + fragment)
-        self.wait("return rows.all().length > 0 && store.now().deal === (new URLSearchParams(location.hash.slice(1)).has('board') ? null : store.now().deal)")
+        self.wait("return document.readyState === 'complete' && !rows.isAwaited(store.now().deal)")
+        if all_rows:
+            self.run("rows.askAll()")
+            self.wait("return rows.isWhole()")
 
     def wait(self, condition, seconds=20):
         end = time.monotonic() + seconds
@@ -183,4 +204,4 @@ class Firefox:
         self.ask("Marionette:SetContext", value="chrome")
         told = self.run("return Services.console.getMessageArray().map(it => [it.sourceName ?? '', String(it.message)])")
         self.ask("Marionette:SetContext", value="content")
-        return [message for source, message in told if "page/index.html" in source + message]
+        return [message for source, message in told if "/page/" in source + message]

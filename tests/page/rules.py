@@ -78,8 +78,7 @@ def replayed(task):
 
 def boards(count):
     with browsers.Chromium() as page:
-        page.open()
-        page.wait("return rows.all().length >= 1000")
+        page.open(all_rows=True)
         given = page.run_async(GAME + """
             const told = [];
             for (const row of rows.all().filter(it => it.list !== "").slice(0, given[0])) {
@@ -193,6 +192,24 @@ def texts():
                     yield cell.encode("raw_unicode_escape").decode("unicode_escape")
 
 
+def row_texts():
+    """The texts in rows of cases, read and refused."""
+    for name in ("faults-of-rows", "rows-by-their-places", "rows-may-be-short"):
+        with open(os.path.join(TOP, "tests", "rows", f"{name}.tsv"), encoding="utf-8") as it:
+            lines = it.read().splitlines()
+        at = None
+        for words in (line.split("\t") for line in lines if not line.startswith("#")):
+            if words[0] == "columns":
+                at = words.index("in") - 1
+            elif at is not None and words[0] not in ("let", "use", "run", "also") and not words[at].startswith("@"):
+                yield words[at].encode("raw_unicode_escape").decode("unicode_escape")
+
+
+def told_of_rows(text):
+    ran = said(["show", "--rows", "--plain"], text.encode())
+    return ran.out.decode() or ran.fault().replace("fc_solve: ", "")
+
+
 def told_of(text):
     ran = said(["show", "--plain"], text.encode())
     return ran.out.decode() or ran.err.decode().replace("fc_solve: ", "").replace("--guess adds it\n", "")
@@ -206,13 +223,23 @@ def faults():
             const it = board.read(text, game);
             return board.isFault(it) ? [`board: ${it.says}\\n${it.note}\\n`, it.spots.map(({ from, to }) => text.slice(from, to))] : [board.print(it, game), []];
           });""", given)
+        in_rows = [*dict.fromkeys(row_texts())]
+        told_in_rows = page.run(GAME + """return arguments[0].map(text => {
+            const it = board.read(text, game, true);
+            return board.isFault(it) ? `board: ${it.says}` : board.print(it, game);
+          });""", in_rows)
     wrong = 0
+    for text, says in zip(in_rows, told_in_rows):
+        wanted = told_of_rows(text)
+        if wanted != says:
+            wrong += 1
+            print(f"in rows {json.dumps(text)}\nsays {says!r}\nin place of {wanted!r}")
     for text, wanted, (says, spots) in zip(given, map(told_of, given), told):
         lies = [it for it in spots if it.strip() == it and it] == spots
         if wanted != says or not lies and "repeated" not in says:
             wrong += 1
             print(f"{json.dumps(text)}\nsays {says!r} at {spots}\nin place of {wanted!r}")
-    print(f"{len(given)} texts: {'each is told as the program tells it' if not wrong else f'{wrong} are told otherwise'}")
+    print(f"{len(given)} texts in columns, {len(in_rows)} in rows: {'each is told as the program tells it' if not wrong else f'{wrong} are told otherwise'}")
     return not wrong
 
 
