@@ -90,6 +90,8 @@ def tasks_of(what):
 
 def main():
     failed, tasks = [], tasks_of(sys.argv[1])
+    if os.environ.get("few"):
+        tasks = tasks[::3]
     for (words, *_), (met, told) in zip(tasks, runs.side_by_side(sweep, tasks)):
         failed += told
         if met < 2:

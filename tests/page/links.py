@@ -3,7 +3,7 @@
 
 usage, at the top of the repository:
     links.py opened     links to deals, boards, lists and games of one's own, and links that lie
-    links.py printed    links that the program prints, of eight deals, a board typed in rows, a hint, a replay and a review
+    links.py printed    links that the program prints, of deals, a board typed in rows, a hint, a replay and a review
     links.py pasted     a board with a fault, boards in rows, long texts and long lists
     links.py gallery    filters, plots, presets, links to what is chosen, and its table as a file
 
@@ -112,7 +112,7 @@ def opened():
 
 # Links that are printed: deals of each answer, and a board as it is typed in rows.
 
-LINKED_DEALS = (1, 5, 27, 31, 164, 617, 941, 11982)
+LINKED_DEALS = (617, 11982) if os.environ.get("few") else (1, 5, 27, 31, 164, 617, 941, 11982)
 IN_ROWS = "Foundations: H-J C-K D-K S-J\nQS QH -- -- -- -- -- --\nKH KS -- -- -- -- -- --\n"
 
 
@@ -142,7 +142,7 @@ def printed():
             if words[0] not in ("replay", "review"):
                 has(text(page, "live"), "Won.", f"what is said at the end of {words}")
         same(page.console(), [], "the console")
-    return "links of eight deals, of a board in rows, of a hint, a replay and a review: each opens at its answer"
+    return f"links of {len(LINKED_DEALS)} deals, of a board in rows, of a hint, a replay and a review: each opens at its answer"
 
 
 # Boards that are pasted

@@ -55,9 +55,9 @@ def rows_word(page):
     at_most(page.run("return performance.now()"), 1500, "milliseconds until deal 617's word is seen")
     at_most(page.run("return performance.getEntriesByType('paint')[0].startTime"), 1000, "milliseconds until the page is painted")
     begun(page)
-    page.open("#deal=777777")
+    page.open("#deal=40004")
     page.wait("return /can be won in \\d+ moves/.test(document.getElementById('word').textContent)", 5)
-    wanted = re.match(r"(?:shortest|won) (\d+)", ask(["best", "--budget", "500k", "777777"]))[1]
+    wanted = re.match(r"(?:shortest|won) (\d+)", ask(["best", "--budget", "500k", "40004"]))[1]
     page.wait(f"return document.getElementById('word').textContent.startsWith('From here: can be won in {wanted} moves') && !known.isThinking()", 60)
 
 
@@ -97,7 +97,7 @@ def help_out(page):
     click(page, "finish")
     page.wait("return board.isWon(store.present(store.now()))", 30)
     same(page.run("return store.now().own.at"), 2 + count, "the moves of a game that is played out")
-    begun(page, "#deal=777777")
+    begun(page, "#deal=40004")
     page.wait("return engine.isBusy()", 5)
     press(page, page.run("return moves.all(store.now().game, store.present(store.now()))[0]"))
     page.wait("return document.getElementById('word').textContent.startsWith('From here: ') && !known.isThinking()", 60)
@@ -109,16 +109,26 @@ def help_out(page):
 
 def smooth(page):
     """The page draws on while the worker searches."""
-    begun(page, "#deal=777777")
+    begun(page, "#deal=40004")
     frames = page.run_async(FRAMES)
     at_most(statistics.median(frames), 34, "milliseconds from frame to frame while the worker searches")
+
+
+def unable(page):
+    """Where the browser has no 64-bit memory, or no file of the solver, that is said, and all else is as it was."""
+    stop = page.before("WebAssembly.validate = () => false")
+    page.open("#deal=40004")
+    has(text(page, "word"), "This browser has no 64-bit memory", "what is said without memory")
+    page.open("#deal=617")
+    same(text(page, "word"), "From here: can be won in 98 moves, and in no fewer", "a row without a solver")
+    stop()
 
 
 def games():
     with browsers.Chromium() as page:
         page.scheme("light")
         page.size(1280)
-        for work in (rows_word, bad_moves, help_out, smooth):
+        for work in (rows_word, bad_moves, help_out, smooth, unable):
             work(page)
             clean(page, work.__name__)
     return "a row's word, a random deal's, a lost game's, a hint, a game played out, a search that is stopped: as they should be"
