@@ -21,4 +21,7 @@ echo "$stamp" >"$out/stamp"
 # What a case finds on its path has no toolchain.
 PATH=$(printf %s "$PATH" | tr : '\n' | while read -r folder; do [ -x "$folder/rt" ] || echo "$folder"; done | paste -sd :)
 export PATH
+# (some cases wait more than they work)
+RT_JOBS=${RT_JOBS:-$(($(nproc) + 1))}
+export RT_JOBS
 tests/run-cases.sh
