@@ -50,9 +50,9 @@ def selenium():
 
 
 class Chromium:
-    """A window of Chromium, as wide as is told, in a light scheme or a dark one."""
+    """A window of Chromium, as wide as is told, in a light scheme or a dark one. Without a solver the page asks nothing meanwhile."""
 
-    def __init__(self):
+    def __init__(self, has_solver=False):
         webdriver = selenium()
         from selenium.webdriver.chrome.service import Service
 
@@ -66,6 +66,8 @@ class Chromium:
         self.driver.set_script_timeout(120)
         self.forget = lambda: None
         self.stored()
+        if not has_solver:
+            self.before("WebAssembly.validate = () => false")
 
     def __enter__(self):
         return self

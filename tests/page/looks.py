@@ -112,7 +112,7 @@ def refuse_scripts(page):
 
 def times():
     """A step takes little, on a slow machine too, and little is read before the gallery is seen."""
-    with browsers.Chromium() as page:
+    with browsers.Chromium(has_solver=True) as page:
         page.scheme("light")
         page.size(1280, 720)
         page.open("#deal=617&step=1")

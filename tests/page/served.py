@@ -70,7 +70,7 @@ class Quiet(http.server.SimpleHTTPRequestHandler):
 
 def offline():
     """From a web server the page has a manifest, and when it was there once it opens without the server."""
-    with browsers.Chromium() as page:
+    with browsers.Chromium(has_solver=True) as page:
         server = http.server.ThreadingHTTPServer(("127.0.0.1", 0), functools.partial(Quiet, directory=TOP))
         threading.Thread(target=server.serve_forever, daemon=True).start()
         address = f"http://127.0.0.1:{server.server_address[1]}/page/index.html"

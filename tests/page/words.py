@@ -125,7 +125,7 @@ def unable(page):
 
 
 def games():
-    with browsers.Chromium() as page:
+    with browsers.Chromium(has_solver=True) as page:
         page.scheme("light")
         page.size(1280)
         for work in (rows_word, bad_moves, help_out, smooth, unable):
@@ -160,7 +160,7 @@ return told;
 
 
 def boards(count):
-    with browsers.Chromium() as page:
+    with browsers.Chromium(has_solver=True) as page:
         begun(page)
         page.run("rows.askAll()")
         page.wait("return rows.isWhole()")
