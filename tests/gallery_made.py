@@ -31,7 +31,7 @@ DEALS = ["1-3", "33", "46", "852", "941", "11982"]
 # Where it is ended, and how: in the middle of the first pass, and of the second.
 ENDS = [(r"5k 2/", signal.SIGKILL), (r"5k 1/", signal.SIGTERM), (r"40k 1/", signal.SIGKILL), (r"40k 1/", signal.SIGINT)]
 if os.environ.get("few"):
-    DEALS, ENDS = ["2", "33", "46", "941", "11982"], ENDS[::3]
+    DEALS, ENDS = ["2", "33", "941", "11982"], ENDS[::3]
 
 
 def made(out, *words, program=PROGRAM, path=""):

@@ -194,7 +194,7 @@ class Served(http.server.SimpleHTTPRequestHandler):
 def in_browser(name, questions):
     import browsers
 
-    browser = {"chromium": browsers.Chromium, "firefox": browsers.Firefox}[name]
+    browser = {"chromium": lambda: browsers.Chromium(has_solver=True), "firefox": browsers.Firefox}[name]
     with browser() as window:
         Served.questions = json.dumps(questions).encode()
         with http.server.ThreadingHTTPServer(("127.0.0.1", 0), functools.partial(Served, directory=TOP)) as server:
