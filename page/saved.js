@@ -16,7 +16,8 @@ const saved = (() => {
     }
   };
   let seconds = 0;
-  /** @param {(it: Store) => Store} change Changes what is kept, as it stands now: another window may have changed it too. */
+  /** @param {(it: Store) => Store} change Changes what is kept, as it stands now: another window may have changed
+   * it too. */
   const keepChanged = change => {
     const it = change(read());
     try {

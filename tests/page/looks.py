@@ -86,18 +86,17 @@ def sizes():
 
 STEPS = """
 const times = [];
-for (let at = 1; at <= 30; at++) { const from = performance.now(); store.set(it => store.to(it, at)); document.body.offsetHeight; times.push(performance.now() - from); }
-return times.sort((a, b) => a - b)[Math.floor(times.length / 2)];
+for (let at = 1; at <= 40; at++) { const from = performance.now(); store.set(it => store.to(it, at)); document.body.offsetHeight; times.push(performance.now() - from); }
+return times.sort((a, b) => a - b)[9];
 """
 
 
 def step(page, most):
-    """Milliseconds of a step, in the middle of thirty, as soon as they are few enough: others run beside."""
+    """Milliseconds of a step that isn't broken off by what runs beside: the tenth of forty, asked again where these are too many."""
     told = []
     while len(told) < 8 and min(told, default=most + 1) > most:
         told.append(page.run(STEPS))
     return min(told)
-
 
 
 def refuse_scripts(page):
