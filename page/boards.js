@@ -163,5 +163,5 @@ const board = (() => {
     return `${homesLine(it.homes)}\nFreecells:${named(it.cells.slice(0, game.cells))}\n${columns}`;
   };
   const isWon = (/** @type {Board} */ it) => it.homes.every(count => count === cards.HIGHEST);
-  return { HOMES, CELLS, plain, fault, words, inColumns, read, readOther, print, escaped, isFault, isWon };
+  return { HOMES, CELLS, plain, fault, inColumns, read, readOther, print, escaped, isFault, isWon };
 })();

@@ -51,5 +51,5 @@ const deal = (() => {
     const days = Math.floor(Date.UTC(day.getFullYear(), day.getMonth(), day.getDate()) / 86400000);
     return 1 + (Math.imul(days, 2654435761) >>> 0) % 32000;
   };
-  return { MOST, dealt, isNumber, read, ofDay };
+  return { MOST, dealt, read, ofDay };
 })();

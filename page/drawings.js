@@ -47,8 +47,8 @@ const inRows = (() => {
   /** @param {Line0} row @param {Span[]} all What a drawing's foundations hold. */
   const homes = ({ line, from }, all) => ({ kind: "homes", line, from, tokens: all.map(({ word }, i) =>
     isNone(word.text) ? { ...word, text: `${cards.SUITS[i]}-0` } : word) });
-  /** @param {Line0[]} given @returns {Piece[] | Fault} The columns that rows tell; or the first row that is at fault.
-   * */
+  /** @param {Line0[]} given @returns {Piece[] | Fault} The columns that rows tell; or the first row that is at
+   * fault. */
   const pieces = given => {
     const columns = Array.from({ length: 8 }, (_, i) => ({ kind: "column", tokens: /** @type {Token[]} */ ([]), from: 0,
       line: i + 1 }));

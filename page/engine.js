@@ -1,9 +1,6 @@
 // @ts-check
 "use strict";
-/**
- * @typedef {{kind: string, moves?: number, floor?: number, budget?: number, list?: string[], text: string, losing?:
- * number}} Answer
- */
+/** @typedef {{kind: string, moves?: number, floor?: number, list?: string[], text: string}} Answer of the library */
 /** The proved library in a worker: one call at a time, which ends where another one is wanted. solver.js hands over the
  * library. */
 const engine = (() => {

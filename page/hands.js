@@ -93,8 +93,8 @@ const hands = (() => {
     if (it.typed !== "") return store.play(it, it.typed + key, moves.meant(store.present(it), it.typed + key));
     return key === "h" ? it : { ...it, typed: key, taken: null, hint: "", said: "" };
   });
-  /** @param {State} it @returns {State} Shows the next move of the best list that is known; once it is shown, plays it.
-   * */
+  /** @param {State} it @returns {State} Shows the next move of the best list that is known; once it is shown, plays
+   * it. */
   const hint = it => {
     const { line, at } = store.shown(it), move = known.of(it.game, line, at, store.rowOf(it))?.list?.[0];
     if (move === undefined) return { ...it, said: texts.word.noHint };
@@ -141,8 +141,8 @@ const hands = (() => {
   };
   const neighbour = (/** @type {any} */ next) => next?.matches(".bar") && [next.setAttribute("tabindex", "0"),
     next.focus()];
-  /** @param {string} text @param {string} told @param {Game} game Shows the box for boards, with a text and its faults.
-   * */
+  /** @param {string} text @param {string} told @param {Game} game Shows the box for boards, with a text and its
+   * faults. */
   const paste = (text, told, game) => {
     [byId("board-text").value, byId("list-text").value, byId("paste-box").game] = [text, told, game];
     if (!byId("paste-box").open) byId("paste-box").showModal();
@@ -179,5 +179,5 @@ const hands = (() => {
       : null, own: isWon ? { line: list.line(game, start, []), at: 0 } : played,
       isWatching: isWon }));
   };
-  return { touch, tap, drag, press, paste, submit, take, KEYS, hint, finish, faulty, wasDragged: () => wasDragged };
+  return { touch, tap, drag, press, paste, submit, KEYS, hint, finish, wasDragged: () => wasDragged };
 })();

@@ -12,8 +12,8 @@ const list = (() => {
   const BESIDE = /^\s*(shortest \d|won \d|can't be won|gave up \d|fc_solve:|\$ |\d+ (moves|entries)).*$/gm;
   const IN_WORDS = /^.*from (?:column|cell) ([1-8a-d])(?: (home)|.* (?:column|cell) ([1-8a-d])) *\r?$/;
   const MOST_CARRIED = 40, PACKED = /^([1-8a-d][1-8a-dh]){2,}$/i;
-  /** @param {Board} start @param {string[]} steps @returns {Board[]} The boards on the way of moves that are allowed.
-   * */
+  /** @param {Board} start @param {string[]} steps @returns {Board[]} The boards on the way of moves that are
+   * allowed. */
   const boards = (start, steps) => {
     const all = [start];
     for (const move of steps) all.push(moves.after(all[all.length - 1], move));
@@ -114,8 +114,8 @@ const list = (() => {
     return { claim: claimed(text), line: isOneByOne ? line(game, start, steps) : { moves: steps, ends, boards: all },
       fault };
   };
-  /** @param {Game} game @param {Board} start @param {string[]} steps Whether the rules allow these moves, and they win.
-   * */
+  /** @param {Game} game @param {Board} start @param {string[]} steps Whether the rules allow these moves, and they
+   * win. */
   const wins = (game, start, steps) => {
     let now = start;
     for (const move of steps) {

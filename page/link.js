@@ -95,5 +95,5 @@ const link = (() => {
   };
   /** What is told of a text of any length. */
   const cut = (/** @type {string} */ text) => text.length > 40 ? `${text.slice(0, 40)}…` : text;
-  return { NO_FILTER, NO_VIEW, ANSWERS, isUsual, base, entries, played, fragment, read, claimed, cut };
+  return { NO_FILTER, NO_VIEW, isUsual, base, entries, played, fragment, read, claimed, cut };
 })();

@@ -18,8 +18,8 @@ const main = (() => {
       isOn);
     think(now);
   };
-  /** @param {State} it Asks the engine of the board at the table, unless moves are being shown or the page isn't seen.
-   * */
+  /** @param {State} it Asks the engine of the board at the table, unless moves are being shown or the page isn't
+   * seen. */
   const think = it => {
     const { line, at } = store.shown(it);
     const isEarly = link.isUsual(it.game) && rows.isAwaited(it.deal);

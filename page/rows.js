@@ -71,5 +71,5 @@ const rows = (() => {
   const tsv = chosen => ["deal\tanswer\tmoves\tfloor\tbudget\tlist", ...chosen.map(it =>
     [it.deal, it.answer, it.moves ?? "", it.floor ?? "", it.budget, it.list].join("\t"))].join("\n") + "\n";
   return Object.assign(take, { begin, of, askOf, askAll, isAwaited, easier, passes, chosen, tsv, all: () => all,
-    isWhole: () => isWhole, count: () => files.length * size, tell: (/** @type {() => void} */ it) => { told = it; } });
+    isWhole: () => isWhole, tell: (/** @type {() => void} */ it) => { told = it; } });
 })();

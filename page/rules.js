@@ -6,8 +6,8 @@ const moves = (() => {
   const column = (/** @type {Board} */ it, /** @type {string} */ place) => it.columns[COLUMNS.indexOf(place)];
   const isColumn = (/** @type {string} */ place) => COLUMNS.includes(place);
   const isCell = (/** @type {string} */ place) => CELLS.includes(place);
-  /** @param {Board} it @param {string} place @returns {number | null} The card that may be taken from a place, or null.
-   * */
+  /** @param {Board} it @param {string} place @returns {number | null} The card that may be taken from a place, or
+   * null. */
   const top = (it, place) => isColumn(place) ? column(it, place).at(-1) ?? null : it.cells[CELLS.indexOf(place)]
     ?? null;
   /** @param {Game} game @param {number} card @param {number} under Whether a card may stand on another one. */

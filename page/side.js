@@ -48,15 +48,16 @@ const side = (() => {
   const wordOf = (state, word) => {
     const { line, at } = store.shown(state), dot = known.isThinking() ? ` ${texts.word.thinking}` : "", is = texts.word;
     if (board.isWon(store.present(state))) return is.is;
-    if (word === null) return is.here + (known.hasFailed(state.game, line.boards[at]) ? is.none : is.thinking);
-    if (word.kind === "lost") return is.here + is.lost + lostBy(state, line, at);
+    if (word?.kind === "lost") return is.here + is.lost + lostBy(state, line, at);
+    if (word === null || word.list === null && word.budget === "")
+      return is.here + (known.hasFailed(state.game, line.boards[at]) ? is.none : is.thinking);
     const budget = Number(word.budget) > 0 ? texts.number(Number(word.budget)) : word.budget;
     if (word.list === null) return is.here + is.open(budget) + (dot && `;${dot}`);
     return is.here + (word.kind === "shortest" ? is.shortest(word.list.length) : is.won(word.list.length, word.floor))
       + (dot && `;${dot}`);
   };
-  /** @param {State} state @param {Line} line @param {number} at Which move of the line lost, as far as that is known.
-   * */
+  /** @param {State} state @param {Line} line @param {number} at Which move of the line lost, as far as that is
+   * known. */
   const lostBy = (state, line, at) => {
     const move = lostAt(state);
     if (move > 0) return `: ${texts.word.since(move, line.moves[move - 1])}.`;
@@ -72,8 +73,9 @@ const side = (() => {
     const row = store.rowOf(state), { line, at } = store.shown(state), word = known.of(state.game, line, at, row);
     fill("known", [state.deal, state.start, state.game, state.claim, state.solution?.line, state.listFault, row,
       rows.isAwaited(state.deal), state.solution ? null : state.own.line], () => told(state));
+    const isUnknown = word === null || word.list === null && word.kind !== "lost";
     const isLost = word?.kind === "lost", review = isLost ? known.reviewOf(state.game, line, at) : "";
-    say("word", engine.why() && word === null ? engine.why() : wordOf(state, word));
+    say("word", engine.why() && isUnknown ? engine.why() : wordOf(state, word));
     byId("word").dataset.kind = word?.kind ?? "open";
     say("review", review.split("\n")[0]);
     byId("to-before").hidden = !isLost || lostAt(state) === 0;

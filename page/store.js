@@ -111,8 +111,8 @@ const store = (() => {
   const resume = (/** @type {State} */ it) => ({ ...it, isWatching: false, taken: null, typed: "", hint: "",
     isPlaying: false });
   const swap = (/** @type {State} */ it) => it.earlier ? { ...resume(it), own: it.earlier, earlier: it.own } : it;
-  /** @param {State} it @param {string[]} steps @returns {State} Plays on from here by these moves, one after the other.
-   * */
+  /** @param {State} it @param {string[]} steps @returns {State} Plays on from here by these moves, one after the
+   * other. */
   const playOut = (it, steps) => {
     if (steps.length === 0) return it;
     const { line, at } = shown(it), rest = list.line(it.game, line.boards[at], steps),
@@ -179,7 +179,7 @@ const store = (() => {
     write();
     location.hash = hash;
   };
-  return { set, to, play, append, undo, watch, resume, swap, playOut, allHome, open, go, shown, present, isWatching,
+  return { set, to, play, undo, watch, resume, swap, playOut, allHome, open, go, shown, present, isWatching,
     isOfRow, rowOf, now: () => state, write,
     drawn: (/** @type {typeof draw} */ it) => { draw = it; } };
 })();

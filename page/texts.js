@@ -14,7 +14,7 @@ const texts = (() => {
       `the card may not stand on the last card there, the ${under}`,
     none: "no card is there to be taken", own: "a card goes neither to its own column nor from cell to cell",
     notNext: "the card isn't the next one of its foundation", noCell: "the game has no such cell",
-      held: "the cell holds a card",
+    held: "the cell holds a card",
     many: "so many cards can't be carried",
   };
   const ALONE = "keep the lines of one board alone";
@@ -24,12 +24,12 @@ const texts = (() => {
     word: (/** @type {number} */ line, /** @type {number} */ word, /** @type {string} */ text,
       /** @type {string} */ why) => `line ${line}, word ${word}: '${text}' ${why}`,
     notCard: "not a card", notHome: "not a foundation", manyCells: "too many cells", manyColumns: "too many columns",
-      repeated: "repeated", tooLong: "too long",
+    repeated: "repeated", tooLong: "too long",
     noCard: "is no card: a card is its rank, A 2 to 9 T J Q K, and its suit, C D H S",
     noHome: "is no foundation: each suit stands once, as in H-0 C-A D-7 S-T",
-      solvers: `is a solver's: ${ALONE}, and cut the others`,
+    solvers: `is a solver's: ${ALONE}, and cut the others`,
     order: "numbers a column out of order: they go 1: to 8:, or have no numbers",
-      pastCells: "stands past the last cell of the game",
+    pastCells: "stands past the last cell of the game",
     pastColumns: "stands in a ninth column: a line is a column, an empty line an empty one",
     again: (/** @type {number} */ line) => `line ${line}: a line above tells it already: keep one board alone`,
     most: (/** @type {number} */ bytes) => `a board's text has at most ${bytes} bytes: ${ALONE}`,
@@ -44,7 +44,7 @@ const texts = (() => {
     lacked: (/** @type {string[]} */ names) => `missing are${names.map(it => ` ${it}`).join("")}\n`,
     whole: "a board has 52 cards: in its columns, in its cells, or home on its foundations",
     head: "each cell and each foundation has an entry: - stands for none",
-      short: "a row has eight entries: -- stands for none",
+    short: "a row has eight entries: -- stands for none",
     long: "a row has eight entries at most, one a column",
     open: (/** @type {number} */ entry) => `a gap stands before entry ${entry}: -- stands for none`,
   };
@@ -75,16 +75,15 @@ const texts = (() => {
     won: (/** @type {number} */ moves, /** @type {number} */ floor) =>
       `can be won in ${many(moves, "move")}; no list has fewer than ${floor}`,
     lost: "can't be won", open: (/** @type {string} */ budget) => `within ${budget} positions nothing is known`,
-      is: "This game is won.",
+    is: "This game is won.",
     here: "From here: ", thinking: "thinking…", none: "the solver gave no answer", over: "won",
     since: (/** @type {number} */ at, /** @type {string} */ move) => `move ${at}, ${move}, lost it`,
-      toBefore: "back to before it",
     failed: "what lost it wasn't found", hint: (/** @type {string} */ move) => `hint: ${move}.`,
-      noHint: "no list is known from here yet.",
+    noHint: "no list is known from here yet.",
   };
   const known = {
     board: "This board", deal: (/** @type {number} */ deal) => `Deal ${deal}`, bakers: " of Baker's Game",
-      kings: ", kings alone on empty columns",
+    kings: ", kings alone on empty columns",
     cells: (/** @type {number} */ cells) => `, ${cells} cells`, within: (/** @type {string} */ budget) =>
       `: shown within ${budget} positions.`,
     says: ": so its answer says.", lost: (/** @type {string} */ name, /** @type {string} */ by) =>
@@ -116,7 +115,7 @@ const texts = (() => {
     counts: (/** @type {boolean} */ isOwn, /** @type {number} */ moves, /** @type {number} */ byHand) =>
       `${isOwn ? "your game: " : ""}${many(moves, "move")}, ${byHand} by hand`,
     step: (/** @type {number} */ at, /** @type {number} */ count) => `${at} of ${count}`, play: "play", pause: "pause",
-      went: "went home by itself",
+    went: "went home by itself",
     time: (/** @type {number} */ seconds) => `${Math.floor(seconds / 60)}:${String(seconds % 60).padStart(2, "0")}`,
     emptyColumn: (/** @type {string} */ at) => `column ${at}, empty`, emptyCell: (/** @type {string} */ at) =>
       `cell ${at}, empty`,
@@ -133,23 +132,23 @@ const texts = (() => {
       `Won in ${many(moves, "move")}, ${byHand} by hand.`,
     fewest: "No list has fewer.", above: (/** @type {number} */ more) => `The fewest are ${more} fewer.`,
     floor: (/** @type {number} */ floor) => `No list has fewer than ${floor}.`,
-    best: (/** @type {number} */ moves) => `Your best of this deal: ${moves}.`, first: "Your first win of this deal.",
+    best: (/** @type {number} */ moves) => `Your best of this deal: ${moves}.`,
     count: (/** @type {number} */ deals) => `You have won ${many(deals, "deal")}.`,
   };
   const link = {
     deal: (/** @type {string} */ told) => `deal number ${told} is outside 1 to 1000000`,
-      noDeal: (/** @type {string} */ told) => `${told} is no deal's number`,
+    noDeal: (/** @type {string} */ told) => `${told} is no deal's number`,
     noNumber: (/** @type {string} */ name, /** @type {string} */ told) => `the link's ${name}, ${told}, is no number`,
     none: (/** @type {string} */ told) => `the link's answer, ${told}, is none`,
-      refuted: (/** @type {string} */ told) => `the link's answer, ${told}, is refuted by its list`,
+    refuted: (/** @type {string} */ told) => `the link's answer, ${told}, is refuted by its list`,
     high: (/** @type {number} */ floor) => `the link's floor, ${floor}, is refuted by its list`,
     title: (/** @type {string} */ name) => `${name} · Luffaknife`,
   };
   const gallery = {
     found: (/** @type {number} */ some, /** @type {number} */ all) => `${number(some)} of ${number(all)} deals`,
-      loading: "looking…",
+    loading: "looking…",
     page: (/** @type {number} */ at, /** @type {number} */ of) => `page ${at} of ${of}`, deals: "deals",
-      fewest: "fewest moves",
+    fewest: "fewest moves",
     gap: "moves of the list less the floor", bars: (/** @type {string} */ by) => `deals by ${by}; each bar is a filter`,
     bar: (/** @type {number} */ at, /** @type {number} */ count, /** @type {number | null} */ part) =>
       `${at}: ${many(count, "deal")}${part === null ? "" : `, ${part} of them chosen`}`,
@@ -158,26 +157,24 @@ const texts = (() => {
     board: (/** @type {string} */ says) => `board: ${says}`,
     asRows: "These lines are a board in columns, and another one in rows across the table. Which is it?",
     isRows: "In columns these lines are no board, but in rows across the table they are one.",
-    asColumns: "These lines are a board in rows across the table, and another one in columns. Which is it?",
-    rows: "in rows", columns: "in columns",
   };
   /** What stands in the page itself, by its names there. */
   const page = /** @type {Record<string, string>} */ ({
     about: "FreeCell in the fewest one-card moves", choose: "choose a deal", deal: "deal", go: "go",
-      before: "the deal before", after: "the next deal", random: "random", menu: "menu",
+    before: "the deal before", after: "the next deal", random: "random", menu: "menu",
     table: "the table", moves: "the list of moves", first: "to the beginning", back: "a move back", step: "a move on",
-      last: "to the end", slider: "the present move",
+    last: "to the end", slider: "the present move",
     undo: "undo", redo: "redo", hint: "hint", finish: "finish it", "all-home": "all home", speed: "speed",
     "speed-half": "½ a second", "speed-1": "1 a second", "speed-2": "2 a second",
     "speed-4": "4 a second", "speed-8": "8 a second", known: "what is known", "to-before": "back to before it",
-      lines: "whose moves are at the table", list: "moves",
+    lines: "whose moves are at the table", list: "moves",
     "win-next": "next deal", "win-close": "look at it", gallery: "All deals that are answered",
     "plot-moves": "Fewest moves, of deals whose list is a shortest one; heights by the square root",
     "plot-gap": "Gap between a deal's list and its floor; heights by the square root",
     filters: "filter the deals", deals: "deals", "from-deals": "deals from", "to-deals": "deals to",
     "from-moves": "moves from", "to-moves": "moves to", "from-gaps": "gaps from", "to-gaps": "gaps to",
     gaps: "gaps", answer: "answer", any: "any", clear: "show all", floor: "floor", gap: "gap", within: "within",
-      hardest: "hardest shown", easiest: "easiest", lost: "lost", open: "greatest gaps",
+    hardest: "hardest shown", easiest: "easiest", lost: "lost", open: "greatest gaps",
     save: "save as a table", fewer: "before", more: "next", "what-moves": "moves", "what-floor": "floor",
     "what-gap": "gap", "what-within": "within",
     "moves-is": "how many one-card moves the list of a row has", "floor-is": "no list that wins has fewer moves",
@@ -188,7 +185,7 @@ const texts = (() => {
     "paste-list": "Moves, or an answer of the program (may stay empty)", show: "show", close: "close",
     "as-rows": "in rows", "as-columns": "in columns",
     "menu-name": "Menu", today: "today's deal", paste: "paste a board", help: "keys", game: "game",
-      freecell: "FreeCell", bakers: "Baker's Game", cells: "cells",
+    freecell: "FreeCell", bakers: "Baker's Game", cells: "cells",
     kings: "only kings may go to an empty column", "switch-home": "cards that nothing can want go home by themselves",
     "switch-tap": "one tap sends a card to its best place",
     "switch-keys": "keys of one letter", "switch-colours": "four colours", "switch-timer": "a timer",

@@ -2,12 +2,10 @@
 "use strict";
 /**
  * @typedef {{kind: "shortest" | "won" | "lost" | "open", moves: number | null, floor: number, list: string[] | null,
- * budget: string}} Word what is
- * known of a board: a list of so many moves wins, or none; no list has fewer than the floor; within how many positions
- * that was found
+ *   budget: string}} Word what is known of a board: a list of so many moves wins, or none; no list has fewer than the
+ *   floor; within how many positions that was found, where it was asked
  */
-/** What is known of the board at the table: by the row of its deal, by the engine, and by what was known before a move.
- * */
+/** What is known of the board at the table: by its deal's row, by the engine, and by what was known before a move. */
 const known = (() => {
   const BUDGETS = [20000, 100000, 500000], REVIEWED = 500000, WAIT = 120;
   /** @typedef {{word: Word | null, asked: number}} Heard */
@@ -32,18 +30,18 @@ const known = (() => {
     : list.length <= floor ? "shortest" : "won";
   /** @param {Word | null} a @param {Word | null} b @returns {Word | null} What both together tell. */
   const merged = (a, b) => {
-    if (a === null || b === null || a.kind === "lost" || b.kind === "lost") return a?.kind === "lost" ? a
-      : b?.kind === "lost" ? b : a ?? b;
-    const list = a.list && (!b.list || a.list.length <= b.list.length) ? a.list : b.list,
-      floor = Math.max(a.floor, b.floor);
-    return { kind: kindOf(list, floor), moves: list && list.length, list, floor, budget: list === a.list
-      && floor === a.floor ? a.budget : b.budget };
+    if (a?.kind === "lost" || b === null) return a;
+    if (b.kind === "lost" || a === null) return b;
+    const list = a.list && (!b.list || a.list.length <= b.list.length) ? a.list : b.list;
+    const budget = Number(a.budget) > Number(b.budget) ? a.budget : b.budget || a.budget;
+    const floor = Math.max(a.floor, b.floor);
+    return { kind: kindOf(list, floor), moves: list && list.length, list, floor, budget };
   };
   /** @param {Word | null} it @param {string} move What a word tells behind a move. @returns {Word | null} */
   const behind = (it, move) => {
     if (it === null || it.kind === "lost") return it;
     const list = it.list?.[0] === move ? it.list.slice(1) : null, floor = Math.max(0, it.floor - 1);
-    return { ...it, kind: kindOf(list, floor), list, moves: list && list.length, floor };
+    return { kind: kindOf(list, floor), list, moves: list && list.length, floor, budget: list ? it.budget : "" };
   };
   /** @param {Row | undefined} row @returns {Word | null} What a row tells of its deal. */
   const ofRow = row => {
@@ -59,6 +57,7 @@ const known = (() => {
     return { kind: it.kind === "shortest" ? "shortest" : list ? "won" : "open", moves: list && list.length,
       floor: it.floor ?? 0, list, budget: String(budget) };
   };
+  const WON = /** @type {Word} */ ({ kind: "shortest", moves: 0, floor: 0, list: [], budget: "" });
   /** @param {Game} game @param {Line} line @param {number} at @param {Row | undefined} row What is known of the board
    * at a step. */
   const of = (game, line, at, row) => {
@@ -67,15 +66,13 @@ const known = (() => {
       if (i > 0) word = behind(word, line.moves[i - 1]);
       word = merged(word, (i === at ? heardOf(game, line.boards[i]) : near.get(line.boards[i]))?.word ?? null);
     }
-    return board.isWon(line.boards[at]) ? { kind: /** @type {"shortest"} */ ("shortest"), moves: 0, floor: 0, list: [],
-      budget: "" } : word;
+    return board.isWon(line.boards[at]) ? WON : word;
   };
   /** @param {Line} line @param {number} at The number of the move that lost, where the words before it say so. */
   const losingMove = (line, at) => {
     const kind = (/** @type {number} */ i) => near.get(line.boards[i])?.word?.kind;
-    for (let i = 1; i <= at; i++) if (kind(i) === "lost") return kind(i - 1) === "won" || kind(i - 1) === "shortest" ? i
-      : 0;
-    return 0;
+    const first = line.boards.findIndex((_, i) => i > 0 && i <= at && kind(i) === "lost");
+    return first > 0 && ["won", "shortest"].includes(kind(first - 1) ?? "") ? first : 0;
   };
   /** @param {Game} game @param {Line} line @param {number} at Which move of a line lost, as the engine's review says:
    * of a front of it too. */
@@ -93,8 +90,8 @@ const known = (() => {
     const key = keyOf(game, line.boards[at]), word = of(game, line, at, row), way = line.moves.slice(0, at).join("");
     const isDone = word?.kind === "shortest", isLost = word?.kind === "lost",
       asked = heardOf(game, line.boards[at])?.asked ?? 0, budget = BUDGETS.find(it => it > asked);
-    const isReviewed = isLost && (at === 0 || reviewOf(game, line, at) !== ""), next = isLost ? `${key}${way} lost`
-      : `${key} ${budget}`;
+    const isReviewed = isLost && (at === 0 || reviewOf(game, line, at) !== "");
+    const next = isLost ? `${key}${way} lost` : `${key} ${budget}`;
     const isTold = at === 0 && row !== undefined || isDone || isReviewed || !isLost && budget === undefined;
     if (!engine.isThere() || isTold) return quiet();
     if (wanted === next) return;
@@ -111,8 +108,9 @@ const known = (() => {
   /** @param {Game} game @param {string} key @param {Board} it @param {number} budget */
   const think = async (game, key, it, budget) => {
     const answer = await engine.best(game, board.print(it, game), budget).catch(hush);
-    if (typeof answer !== "string") hear(key, it, answer && (!answer.list || list.wins(game, it, answer.list))
-      ? ofAnswer(answer, budget) : null, answer ? budget : Infinity);
+    if (typeof answer === "string") return;
+    const isSound = answer !== null && (!answer.list || list.wins(game, it, answer.list));
+    hear(key, it, isSound ? ofAnswer(answer, budget) : null, isSound ? budget : Infinity);
   };
   /** @param {string} key @param {Board} it @param {Word | null} word @param {number} asked A list is replayed by the
    * page's rules before it is shown. */
@@ -138,6 +136,6 @@ const known = (() => {
   const hush = fault => fault.message === STOPPED ? STOPPED : null;
   const isThinking = () => wanted !== "";
   const hasFailed = (/** @type {Game} */ game, /** @type {Board} */ it) => heardOf(game, it)?.asked === Infinity;
-  return { of, ask, quiet, losingMove, reviewOf, isThinking, hasFailed, BUDGETS,
+  return { of, ask, quiet, losingMove, reviewOf, isThinking, hasFailed,
     tell: (/** @type {() => void} */ it) => { told = it; } };
 })();
