@@ -193,9 +193,9 @@ def long_texts(page):
     open_board(page, TWO_KINGS, list="1334" + "4334" * 9_999)
     page.wait("return store.now().own.line.moves.length === 20000")
     told = page.run("const from = performance.now(); store.set(it => store.to(it, 19999)); store.set(it => store.to(it, 1)); return [performance.now() - from, document.querySelectorAll('#list li').length]")
-    at_most(told[0], 1000, "milliseconds of two steps in a list of 20,000")
+    at_most(told[0], 5000, "milliseconds of two steps in a list of 20,000")
     at_most(told[1], 400, "how many moves of it are shown")
-    at_most(page.run("const from = performance.now(); list.read(store.now().game, store.now().start, '13' + '3443'.repeat(9999)); return performance.now() - from"), 2000, "milliseconds of reading it")
+    at_most(page.run("const from = performance.now(); list.read(store.now().game, store.now().start, '13' + '3443'.repeat(9999)); return performance.now() - from"), 5000, "milliseconds of reading it")
 
 
 def pasted():

