@@ -8,6 +8,7 @@ The program is the one that the environment names as fc_solve.
 import functools
 import http.server
 import os
+import re
 import subprocess
 import sys
 import threading
@@ -69,7 +70,10 @@ class Quiet(http.server.SimpleHTTPRequestHandler):
 
 
 def offline():
-    """From a web server the page has a manifest, and when it was there once it opens without the server."""
+    """From a web server the page has a manifest, and when it was there once it opens without the server: each of its files is kept."""
+    with open(os.path.join(TOP, "page", "index.html"), encoding="utf-8") as page, open(os.path.join(TOP, "page", "offline.js"), encoding="utf-8") as it:
+        kept = re.findall(r'"([^"]+)"', it.read().split("PAGE = [")[1].split("]")[0])
+        same([name for name in re.findall(r'<(?:script src|link rel="(?:stylesheet|icon)" href)="([^"]+)"', page.read()) if name not in kept], [], "files that aren't kept")
     with browsers.Chromium(has_solver=True) as page:
         server = http.server.ThreadingHTTPServer(("127.0.0.1", 0), functools.partial(Quiet, directory=TOP))
         threading.Thread(target=server.serve_forever, daemon=True).start()
