@@ -31,7 +31,7 @@ DEALS = ["1-3", "33", "46", "852", "941", "11982"]
 # Where it is ended, and how: in the middle of the first pass, and of the second.
 ENDS = [(r"5k 2/", signal.SIGKILL), (r"5k 1/", signal.SIGTERM), (r"40k 1/", signal.SIGKILL), (r"40k 1/", signal.SIGINT)]
 if os.environ.get("few"):
-    DEALS, ENDS = ["2", "33", "941", "11982"], ENDS[::3]
+    DEALS, ENDS = ["2", "33", "941", "11982"], ENDS[2:3]
 
 
 def made(out, *words, program=PROGRAM, path=""):
@@ -93,7 +93,7 @@ def try_stopped(room, words):
     status, _, errors = made(broken, *words, *BUDGETS, *DEALS)
     assert (status, errors, contents(broken)) == (0, "", contents(whole)), (status, errors, rows_in(broken), rows_in(whole))
     assert sorted(os.listdir(broken)) == sorted(os.listdir(whole)) == ["certificates", "deals"], os.listdir(broken)
-    print(f"stopped {'two' if len(ENDS) == 2 else 'four'} times, and the same in the end; nothing was lost, doubled or unchecked")
+    print(f"stopped {'once' if len(ENDS) == 1 else 'four times'}, and the same in the end; nothing was lost, doubled or unchecked")
     status, out, _ = made(broken, *words, *BUDGETS, *DEALS)
     assert (status, out.count("\n"), contents(broken)) == (0, 1, contents(whole)), out
     print("then there is nothing to be asked")

@@ -10,7 +10,7 @@ The program is the one that the environment names as fc_solve.
 import sys
 
 import browsers
-from seen import BY_HAND, RUN, TWO_KINGS, at_top, card, clean, click, has, moves, open_board, press, rows_of_gallery, run, same, text
+from seen import BY_HAND, RUN, TWO_KINGS, at_top, card, clean, click, has, moves, open_board, press, rows_of_gallery, run, same, share, text
 
 # Scripts that the page asks for come later than it writes its link.
 LATE = """
@@ -158,7 +158,7 @@ def games():
         page.scheme("light")
         page.size(1280)
         page.stored(BY_HAND)
-        for work in (play_deal, drag_cards, tap_places, take_by_keys, await_rows, watch):
+        for work in share((play_deal, drag_cards, take_by_keys, tap_places, watch, await_rows)):
             work(page)
             clean(page, work.__name__)
     return "a deal played and undone, cards dragged, tapped and taken by keys, a list watched: as they should be"
@@ -296,7 +296,7 @@ def kept():
     with browsers.Chromium() as page:
         page.scheme("light")
         page.size(1280)
-        for work in (tap_once, lines_kept, go_home, counts_by_hand, win, today, history):
+        for work in share((tap_once, lines_kept, go_home, counts_by_hand, win, today, history)):
             work(page)
             clean(page, work.__name__)
     # (in a browser of its own, where nothing else was kept)

@@ -15,7 +15,7 @@ import sys
 import urllib.parse
 
 import browsers
-from seen import BY_HAND, TWO_KINGS, at_most, clean, click, has, link, moves, open_board, press, rows_of_gallery, run, same, text
+from seen import BY_HAND, FEW, TWO_KINGS, at_most, clean, click, has, link, moves, open_board, press, rows_of_gallery, run, same, share, text
 
 FAULTY = "JD KD 2S 4C 3S 6D 6S\n2D KC KS 5C TD 8S 9C\n9H 9S 9D TS 4S 8D 2H\nJC 5S QD QX TH QS 6H\n"
 NO_WORDS = "shortest", "won", "can't be won", "gave up"
@@ -104,7 +104,7 @@ def wrong_links(page):
 def opened():
     with browsers.Chromium() as page:
         page.stored(BY_HAND)
-        for work in (open_list, other_links, wrong_links):
+        for work in share((open_list, other_links, wrong_links)):
             work(page)
             clean(page, work.__name__)
     return "links to deals, boards, lists and games, and links that lie: as they should be"
@@ -200,7 +200,7 @@ def long_texts(page):
 
 def pasted():
     with browsers.Chromium() as page:
-        for work in (paste_fault, paste_rows, long_texts):
+        for work in (paste_fault, paste_rows) if FEW else (paste_fault, paste_rows, long_texts):
             work(page)
             clean(page, work.__name__)
     return "boards with faults, in rows, long texts and lists: as they should be"
