@@ -115,6 +115,8 @@ const store = (() => {
    * other. */
   const playOut = (it, steps) => {
     if (steps.length === 0) return it;
+    // (one's own game stays as it is)
+    if (isWatching(it)) return { ...it, taken: null, typed: "", hint: "", isPlaying: true };
     const { line, at } = shown(it), rest = list.line(it.game, line.boards[at], steps),
       ends = [...line.ends.filter(end => end < at), ...at > 0 ? [at] : []];
     const own = { line: { moves: [...line.moves.slice(0, at), ...steps], boards: [...line.boards.slice(0, at),
