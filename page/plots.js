@@ -2,7 +2,7 @@
 "use strict";
 /** How many deals have how many moves, and gaps: bars that are filters. */
 const plots = (() => {
-  const HEIGHT = 190, LEFT = 58, BOTTOM = 38, TOP = 14, STEPS = [1, 2, 5, 10, 20, 50, 100, 200, 500, 1000, 2000, 5000,
+  const HEIGHT = 190, LEFT = 62, BOTTOM = 38, TOP = 14, STEPS = [1, 2, 5, 10, 20, 50, 100, 200, 500, 1000, 2000, 5000,
     10000, 20000], ROOM = 26;
   const { make } = dom, FLOOR = HEIGHT - BOTTOM;
   const text = (/** @type {number} */ x, /** @type {number} */ y, /** @type {string} */ said, given = {}) =>
