@@ -14,20 +14,12 @@ mod rounds;
 
 use crate::certificates::bench_certificate;
 use crate::checks::{bench_check, make_certificate};
-use crate::measures::{Copies, measured, report};
-use crate::plain::{plain_distinct, plain_key, plain_settle};
-use crate::rounds::{
-    apply_moves, ask, copy_bytes, copy_positions, fill_and_drain, list_moves, settle_copies,
-    settle_positions, shift_cards,
-};
-use fc_bound::bound;
-use fc_canonical::{distinct_moves, key};
+use crate::measures::{Copies, nanos_of, report};
+use crate::rounds::{Call, Work};
 use fc_deal::deal;
-use fc_home::settle;
 use fc_moves::FreeCell;
 use fc_position::Position;
 use fc_text::read_board;
-use std::rt::Clock;
 use std::{env, io};
 
 /// All 52 cards in one column, the kings deepest.
@@ -42,109 +34,69 @@ const FOUR_COLUMNS: &[u8] = b"\
     KD QD JD TD 9D 8D 7D 6D 5D 4D 3D 2D AD\n\
     KC QC JC TC 9C 8C 7C 6C 5C 4C 3C 2C AC\n";
 
+/// What is measured on the start of deal 1: its name, how many calls a round makes, and what it is.
+const WORKS: [(&str, u64, Work); 11] = [
+    ("copy of the bytes", 1, Work::CopyBytes),
+    ("Position::copy", 1, Work::CopyPositions),
+    ("Position::shift, with its tests", 1, Work::ShiftCards),
+    ("allows and apply", 2, Work::ApplyMoves),
+    ("moves", 1, Work::ListMoves),
+    ("key", 1, Work::Ask(Call::Key)),
+    ("key, plainly", 1, Work::Ask(Call::PlainKey)),
+    ("distinct_moves", 1, Work::Ask(Call::Distinct)),
+    ("distinct_moves, plainly", 1, Work::Ask(Call::PlainDistinct)),
+    ("settle, by rule 2", 1, Work::Ask(Call::Settle)),
+    ("settle, plainly", 1, Work::Ask(Call::PlainSettle)),
+];
+
+/// And behind what is measured where many cards go.
+const MORE_WORKS: [(&str, u64, Work); 2] = [
+    ("bound", 1, Work::Ask(Call::Bound)),
+    ("push and pop_least", 2, Work::Queue),
+];
+
+/// What is measured of a position where many cards go, with a copy of it for each call.
+const SETTLING: [(&str, u64, Work); 2] = [
+    ("  settle, by rule 2", 1, Work::AskCopies(Call::Settle)),
+    ("  settle, plainly", 1, Work::AskCopies(Call::PlainSettle)),
+];
+
 /// Measures each call so often.
-fn bench(
-    rt: &(impl Clock + Print + AllocGlobal),
-    position: &Position,
-    game: &FreeCell,
-    rounds: u32,
-) -> io::Result<()> {
-    let calls = u64::from(rounds);
-    let nanos = measured(rt, || copy_bytes(rounds))?;
+fn bench(rt: &HostRuntime, position: &Position, game: &FreeCell, rounds: u32) -> io::Result<()> {
     let bytes = Copies {
-        nanos,
-        count: calls,
+        nanos: nanos_of(rt, Work::CopyBytes, game, position, rounds)?,
+        count: u64::from(rounds),
     };
-    report(rt, "copy of the bytes", calls, nanos, bytes)?;
-    let copies = measured(rt, || copy_positions(position, rounds))?;
-    report(rt, "Position::copy", calls, copies, bytes)?;
-    let mut board = position.copy();
-    let shifts = measured(rt, || shift_cards(&mut board, rounds))?;
-    report(rt, "Position::shift, with its tests", calls, shifts, bytes)?;
-    let mut board = position.copy();
-    let applied = measured(rt, || apply_moves(game, &mut board, rounds))?;
-    report(rt, "allows and apply", 2 * calls, applied, bytes)?;
-    let mut board = position.copy();
-    let listed = measured(rt, || list_moves(game, &mut board, rounds))?;
-    report(rt, "moves", calls, listed, bytes)?;
-    bench_classes(rt, position, game, rounds, bytes)
-}
-
-/// Measures each call on classes so often, and its plain form.
-fn bench_classes(
-    rt: &(impl Clock + Print + AllocGlobal),
-    position: &Position,
-    game: &FreeCell,
-    rounds: u32,
-    bytes: Copies,
-) -> io::Result<()> {
-    let calls = u64::from(rounds);
-    let keys = measured(rt, || ask(position, rounds, |board| key(board).len()))?;
-    report(rt, "key", calls, keys, bytes)?;
-    let keys = measured(rt, || {
-        ask(position, rounds, |board| plain_key(board).len())
-    })?;
-    report(rt, "key, plainly", calls, keys, bytes)?;
-    let distinct = measured(rt, || {
-        ask(position, rounds, |board| distinct_moves(game, board).len())
-    })?;
-    report(rt, "distinct_moves", calls, distinct, bytes)?;
-    let distinct = measured(rt, || {
-        ask(position, rounds, |board| plain_distinct(game, board))
-    })?;
-    report(rt, "distinct_moves, plainly", calls, distinct, bytes)?;
-    bench_search_parts(rt, position, game, rounds, bytes)
-}
-
-/// Measures what a search does with each position beside its key, and a queue of so many pairs.
-fn bench_search_parts(
-    rt: &(impl Clock + Print + AllocGlobal),
-    position: &Position,
-    game: &FreeCell,
-    rounds: u32,
-    bytes: Copies,
-) -> io::Result<()> {
-    let calls = u64::from(rounds);
-    let settled = measured(rt, || {
-        settle_positions(position, rounds, |board| settle(game, board, 2).len())
-    })?;
-    report(rt, "settle, by rule 2", calls, settled, bytes)?;
-    let settled = measured(rt, || {
-        settle_positions(position, rounds, |board| plain_settle(game, board).len())
-    })?;
-    report(rt, "settle, plainly", calls, settled, bytes)?;
+    bench_all(rt, &WORKS, position, game, rounds, bytes)?;
     if let (Ok(pile), Ok(suits)) = (read_board(ONE_COLUMN, 4), read_board(FOUR_COLUMNS, 4)) {
-        bench_settle(rt, "one column", &pile, game, rounds / 16, bytes)?;
-        bench_settle(rt, "four columns", &suits, game, rounds / 16, bytes)?;
+        for (name, board) in [("one column", &pile), ("four columns", &suits)] {
+            println!(rt; "52 cards in {name}, with the copy of the position:")?;
+            bench_all(rt, &SETTLING, board, game, rounds / 16, bytes)?;
+        }
     }
-    let bounds = measured(rt, || {
-        ask(position, rounds, |board| bound(board) as usize)
-    })?;
-    report(rt, "bound", calls, bounds, bytes)?;
-    let alloc = rt.alloc();
-    let queue = measured(rt, || fill_and_drain(alloc, rounds))?;
-    report(rt, "push and pop_least", 2 * calls, queue, bytes)
+    bench_all(rt, &MORE_WORKS, position, game, rounds, bytes)
 }
 
-/// Measures settling a copy of a position where many cards go, so often, and its plain form.
-fn bench_settle(
-    rt: &(impl Clock + Print),
-    name: &str,
+/// Measures each of these on a position so often.
+fn bench_all(
+    rt: &HostRuntime,
+    works: &[(&str, u64, Work)],
     position: &Position,
     game: &FreeCell,
     rounds: u32,
     bytes: Copies,
 ) -> io::Result<()> {
-    let calls = u64::from(rounds);
-    println!(rt; "52 cards in {name}, with the copy of the position:")?;
-    let settled = measured(rt, || {
-        settle_copies(position, rounds, |board| settle(game, board, 2).len())
-    })?;
-    report(rt, "  settle, by rule 2", calls, settled, bytes)?;
-    let settled = measured(rt, || {
-        settle_copies(position, rounds, |board| plain_settle(game, board).len())
-    })?;
-    report(rt, "  settle, plainly", calls, settled, bytes)
+    for (name, calls, work) in works {
+        let nanos = nanos_of(rt, *work, game, position, rounds)?;
+        report(
+            rt,
+            name,
+            calls.saturating_mul(u64::from(rounds)),
+            nanos,
+            bytes,
+        )?;
+    }
+    Ok(())
 }
 
 /// The number that a word says, 0 where it says none.

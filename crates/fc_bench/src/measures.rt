@@ -1,8 +1,9 @@
 //! How long something takes, and how that compares with copying.
 
-use crate::rounds::BYTES;
+use crate::rounds::{BYTES, Work};
+use fc_moves::FreeCell;
+use fc_position::Position;
 use std::io;
-use std::rt::Clock;
 use std::time::Instant;
 
 /// How long so many copies of the bytes took.
@@ -12,22 +13,26 @@ pub struct Copies {
     pub count: u64,
 }
 
-/// Runs a measurement and gives its nanoseconds; what it computes is looked at, so that it is not left out.
-pub fn measured<F: FnOnce() -> usize>(rt: &(impl Clock + Print), run: F) -> io::Result<u64>
-    requires { F.IsAlwaysCallable run }
-{
+/// How many nanoseconds it takes to do this on a position so often; what is computed is looked at, so that it is not left out.
+pub fn nanos_of(
+    rt: &HostRuntime,
+    work: Work,
+    game: &FreeCell,
+    position: &Position,
+    rounds: u32,
+) -> io::Result<u64> {
     let start = Instant::now(rt)?;
-    let outcome = run();
+    let outcome = work.done(rt.alloc(), game, position, rounds);
     let nanos = start.elapsed(rt)?.as_nanos();
     if outcome == usize::MAX {
-        rt.println("more was done than can be counted")?;
+        println!(rt; "more was done than can be counted")?;
     }
     Ok(u64::try_from(nanos).unwrap_or(u64::MAX))
 }
 
 /// Prints a measurement: tenths of nanoseconds a call, and hundredths of a copy of the bytes.
 pub fn report(
-    rt: &impl Print,
+    rt: &HostRuntime,
     name: &str,
     calls: u64,
     nanos: u64,
