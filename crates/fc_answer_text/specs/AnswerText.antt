@@ -1,18 +1,12 @@
 -- How an answer, a claim and a line of a batch are printed.
-use Rattle.std.specs.Prelude.{ℕ, List, Option, Some, None, ◌++◌, length, map, codes, decimal}
-use Rattle.std.specs.List.{join_with_byte}
-use Rattle.fc_moves.specs.declared.steps.Move.{Move}
-use Rattle.fc_moves.specs.MoveText.{move_text}
+use Rattle.std.specs.Prelude.{ℕ, List, Option, Some, None, ◌++◌, length, codes, decimal}
+use Rattle.fc_lists.specs.ListText.{moves_line}
 use Rattle.fc_answers.specs.declared.answers.Outcome.{Outcome}
 use Rattle.fc_answers.specs.declared.answers.Outcome.TheVariants as outcome
 use Rattle.fc_answers.specs.declared.answers.Verdict.{Verdict}
 use Rattle.fc_answers.specs.declared.answers.Verdict.TheVariants.{Shortest, Won, CannotWin, GaveUp}
 use Rattle.fc_cert.specs.declared.claims.Claim.{Claim}
 use Rattle.fc_cert.specs.declared.claims.Claim.TheVariants as claim
-
--- the texts of moves, with a blank between two
-abbrev pub list_text : List Move → List ℕ
-list_text moves = join_with_byte 32 (map move_text moves)
 
 -- how many moves a shortest list has
 abbrev pub shortest_line : ℕ → List ℕ
@@ -21,10 +15,6 @@ shortest_line count = codes "shortest " ++ decimal count ++ codes "\n"
 -- how many moves a list has that wins, and how many each such list has at least
 abbrev pub won_line : ℕ → ℕ → List ℕ
 won_line count floor = codes "won " ++ decimal count ++ codes ", at least " ++ decimal floor ++ codes "\n"
-
--- the line of the moves
-abbrev pub moves_line : List Move → List ℕ
-moves_line moves = list_text moves ++ codes "\n"
 
 -- that a search gave up, and its budget
 abbrev pub gave_up_text : ℕ → List ℕ

@@ -4,12 +4,14 @@ ghost use Rattle.std.specs.Prelude.{◌≡◌, ◌≤◌, ◌++◌, length, IfOk
 ghost use Rattle.fc_moves.specs.MoveText.{HasText};
 ghost use Rattle.fc_answers.specs.Verdict.{CanBeWritten, outcome_of};
 ghost use Rattle.arrayvec.specs.ArrayString.{array_string_len};
-ghost use Rattle.fc_answer_text.specs.AnswerText.{line_text, told_status, told_text, accepted_text, answer_text, list_text, moves_line, shortest_line, won_line, gave_up_text, status_of};
+ghost use Rattle.fc_lists.specs.ListText.{moves_line};
+ghost use Rattle.fc_answer_text.specs.AnswerText.{line_text, told_status, told_text, accepted_text, answer_text, shortest_line, won_line, gave_up_text, status_of};
 
 use arrayvec::ArrayString;
 use fc_answers::{Outcome, Verdict};
 use fc_cert::Claim;
-use fc_moves::{Move, move_text};
+use fc_lists::push_moves_line;
+use fc_moves::Move;
 use itoa::Buffer;
 use std::alloc::{AllocError, Global};
 
@@ -27,19 +29,6 @@ pub fn verdict_text(alloc: Global, verdict: &Verdict) -> Result<Vec<u8>, AllocEr
         Verdict::CannotWin => Vec::from_slice(alloc, b"can't be won\n"),
         Verdict::GaveUp(budget) => gave_up_text(alloc, *budget),
     }
-}
-
-/// The line of moves: the text of each, with a blank between two.
-///
-/// # Errors
-/// A growth of memory was refused.
-pub fn moves_text(alloc: Global, moves: &[Move]) -> Result<Vec<u8>, AllocError>
-    requires texts { All HasText moves.now }
-    ensures text { IfOk result (λ t. t.items ≡ moves_line moves.now) }
-{
-    let mut line = Vec::new(alloc);
-    push_line(&mut line, moves)?;
-    Ok(line)
 }
 
 /// The exit status that tells a verdict: 0 for moves that win, 1 where no list wins, 2 on giving up.
@@ -145,7 +134,7 @@ fn shortest_text(alloc: Global, moves: &[Move]) -> Result<Vec<u8>, AllocError>
 {
     let mut text = Vec::new(alloc);
     push_shortest(&mut text, moves.len())?;
-    push_line(&mut text, moves)?;
+    push_moves_line(&mut text, moves)?;
     Ok(text)
 }
 
@@ -167,7 +156,7 @@ fn won_text(alloc: Global, moves: &[Move], floor: u32) -> Result<Vec<u8>, AllocE
 {
     let mut text = Vec::new(alloc);
     push_won(&mut text, moves.len(), floor)?;
-    push_line(&mut text, moves)?;
+    push_moves_line(&mut text, moves)?;
     Ok(text)
 }
 
@@ -184,16 +173,6 @@ fn push_won(text: &mut Vec<u8>, count: usize, floor: u32) -> Result<(), AllocErr
     Ok(())
 }
 
-// Appends the line of the moves.
-fn push_line(text: &mut Vec<u8>, moves: &[Move]) -> Result<(), AllocError>
-    requires texts { All HasText moves.now }
-    ensures text { OnOk result (text.new.items ≡ text.old.items ++ moves_line moves.now) }
-{
-    push_moves(text, moves)?;
-    text.extend_from_slice(b"\n")?;
-    Ok(())
-}
-
 // The line of a search that gave up.
 fn gave_up_text(alloc: Global, budget: u32) -> Result<Vec<u8>, AllocError>
     ensures text { IfOk result (λ t. t.items ≡ gave_up_text budget) }
@@ -203,20 +182,4 @@ fn gave_up_text(alloc: Global, budget: u32) -> Result<Vec<u8>, AllocError>
     text.extend_from_slice(buffer.format(budget).as_bytes())?;
     text.extend_from_slice(b"\n")?;
     Ok(text)
-}
-
-// Appends the texts of moves, with a blank between two.
-fn push_moves(text: &mut Vec<u8>, moves: &[Move]) -> Result<(), AllocError>
-    requires texts { All HasText moves.now }
-    ensures text { OnOk result (text.new.items ≡ text.old.items ++ list_text moves.now) }
-{
-    let Some((first, rest)) = moves.split_first() else {
-        return Ok(());
-    };
-    text.extend_from_slice(&move_text(*first))?;
-    for m in rest {
-        text.extend_from_slice(b" ")?;
-        text.extend_from_slice(&move_text(*m))?;
-    }
-    Ok(())
 }

@@ -2,7 +2,7 @@
 #![tactic(auto)]
 
 pub use answer_lines::{
-    accepted_text, line_text, moves_text, outcome_of, told_status, verdict_status, verdict_text,
+    accepted_text, line_text, outcome_of, told_status, verdict_status, verdict_text,
 };
 
 mod answer_lines;

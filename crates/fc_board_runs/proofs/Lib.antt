@@ -1,4 +1,3 @@
-pub mod FrontLemmas
 pub mod ListLemmas
 pub mod ReplayLemmas
 pub mod SequenceLemmas

@@ -2,6 +2,9 @@
 use Rattle.std.specs.Prelude.{ℕ, List, codes}
 use Rattle.fc_io.specs.declared.transfers.ReadFault.{ReadFault}
 use Rattle.fc_io.specs.declared.transfers.ReadFault.TheVariants.{Failed, TooLong as too_many, Memory as refused}
+use Rattle.fc_lists.specs.declared.faults.PlayFault.{PlayFault}
+use Rattle.fc_lists.specs.declared.faults.PlayFault.TheVariants as unplayed
+use Rattle.fc_replay.specs.declared.faults.ReplayFault.TheVariants.{BadMove, NotAllowed}
 use Rattle.fc_board_runs.specs.declared.faults.Input.{Input}
 use Rattle.fc_board_runs.specs.declared.faults.Output.{Output}
 use Rattle.fc_board_runs.specs.declared.faults.ProgramFault.{ProgramFault}
@@ -29,6 +32,15 @@ abbrev pub read_fault : Input → ReadFault → ProgramFault
 read_fault input Failed = Read input
 read_fault input too_many = TooLong input
 read_fault input refused = Memory
+
+-- why the entries of a list aren't played, as a fault of the program
+abbrev pub play_fault : PlayFault → ProgramFault
+play_fault (unplayed.NoEntry step) = Moves (BadMove step)
+play_fault (unplayed.NotAllowed step) = Moves (NotAllowed step)
+play_fault (unplayed.TooManyWays step) = TooManyWays step
+play_fault (unplayed.ListEnds count) = ListEnds count
+play_fault unplayed.TooLong = TooLong of_moves
+play_fault unplayed.Memory = Memory
 
 -- how an input and an output are named
 abbrev pub input_text : Input → List ℕ

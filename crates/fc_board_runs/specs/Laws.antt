@@ -1,7 +1,7 @@
 -- What the laws of this crate state.
 use Rattle.std.specs.Prelude.{◌≡◌}
-use Rattle.fc_board_runs.specs.declared.runs.TheConstants.{LONGEST_BOARD, LONGEST_MOVES}
+use Rattle.fc_board_runs.specs.declared.runs.TheConstants.{LONGEST_BOARD}
 
--- the most bytes of a board's text, and of a list of moves
+-- the most bytes of a board's text
 abbrev pub NumbersAreTold : Type 0
-NumbersAreTold = (LONGEST_BOARD ≡ 4096) × (LONGEST_MOVES ≡ 1048576)
+NumbersAreTold = LONGEST_BOARD ≡ 4096

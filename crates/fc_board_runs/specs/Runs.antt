@@ -11,7 +11,7 @@ use Rattle.fc_replay.specs.declared.pages.Page.{Page}
 use Rattle.fc_replay.specs.declared.replays.Ended.{Ended}
 use Rattle.fc_replay.specs.Played.{Replays, ReplaysAs, sink_change}
 use Rattle.fc_replay.specs.Token.{move_tokens}
-use Rattle.fc_board_runs.specs.declared.runs.TheConstants.{LONGEST_MOVES}
+use Rattle.fc_lists.specs.declared.list_plays.TheConstants.{LONGEST_MOVES}
 use Rattle.fc_board_runs.specs.declared.faults.Input.TheVariants.{Board as of_board, Moves as of_moves}
 use Rattle.fc_board_runs.specs.declared.faults.Output.TheVariants.{Answer as of_answer}
 use Rattle.fc_board_runs.specs.declared.faults.ProgramFault.{ProgramFault}

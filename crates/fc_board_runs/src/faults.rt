@@ -3,6 +3,7 @@ ghost use Rattle.fc_board_runs.specs.Fault.{fault_status, input_text, output_tex
 
 use fc_checker::CheckFault;
 use fc_io::ReadFault;
+use fc_lists::PlayFault;
 use fc_replay::ReplayFault;
 use fc_text::BoardFault;
 use std::alloc::AllocError;
@@ -122,6 +123,23 @@ impl From<AllocError> for ProgramFault {
 
     fn from(_refused: AllocError) -> ProgramFault {
         ProgramFault::Memory
+    }
+}
+
+impl From<PlayFault> for ProgramFault {
+    ghost use Rattle.fc_board_runs.specs.Fault.{play_fault};
+
+    ghost from_gives = { λ fault program. program ≡ play_fault fault };
+
+    fn from(fault: PlayFault) -> ProgramFault {
+        match fault {
+            PlayFault::NoEntry(step) => ProgramFault::Moves(ReplayFault::BadMove(step)),
+            PlayFault::NotAllowed(step) => ProgramFault::Moves(ReplayFault::NotAllowed(step)),
+            PlayFault::TooManyWays(step) => ProgramFault::TooManyWays(step),
+            PlayFault::ListEnds(count) => ProgramFault::ListEnds(count),
+            PlayFault::TooLong => ProgramFault::TooLong(Input::Moves),
+            PlayFault::Memory => ProgramFault::Memory,
+        }
     }
 }
 

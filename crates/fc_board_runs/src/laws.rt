@@ -2,7 +2,7 @@
 
 ghost use Rattle.fc_board_runs.specs.Laws.{NumbersAreTold};
 
-/// A board's text has at most 4,096 bytes, and a list of moves at most 1 MiB, 1,048,576.
+/// A board's text has at most 4,096 bytes.
 pub fn numbers_are_told()
     ensures { NumbersAreTold }
 {}

@@ -3,8 +3,8 @@
 #![tactic(auto)]
 
 pub use faults::{Input, Output, ProgramFault, read_fault};
-pub use list_questions::{ListQuestion, ListWants, list_board, list_moves, run_list};
-pub use runs::{LONGEST_BOARD, LONGEST_MOVES, read_position, run_replay_as};
+pub use list_questions::run_list;
+pub use runs::{LONGEST_BOARD, read_position, run_replay_as};
 pub use sequences::run_replay_sequences;
 pub use showing::{Look, run_show};
 pub use written_out::{run_deal, run_replay};

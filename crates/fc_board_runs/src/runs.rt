@@ -9,6 +9,7 @@ ghost use Rattle.fc_board_runs.specs.Runs.{IsReplayedAs, IsReplayFaultAs};
 
 use crate::faults::{Input, Output, ProgramFault, read_fault};
 use fc_io::{Sink, Source, read_to_vec, read_up_to};
+use fc_lists::LONGEST_MOVES;
 use fc_moves::Game;
 use fc_position::Position;
 use fc_replay::{Ended, Page, ReplayFault, replay_as};
@@ -17,9 +18,6 @@ use std::alloc::Global;
 
 /// The most bytes that a board's text may have.
 pub const LONGEST_BOARD: usize = 4096;
-
-/// The most bytes that a text of moves may have.
-pub const LONGEST_MOVES: usize = 1_048_576;
 
 /// Reads a board of a game with so many cells, at most 4.
 ///

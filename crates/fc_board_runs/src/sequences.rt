@@ -1,22 +1,18 @@
 //! The run of the program that replays lists in standard notation, whose entries may move sequences, over any source and any
 //! sink.
 
-ghost use Rattle.std.specs.Prelude.{◌≡◌, ◌+◌, ◌≤◌, length, take, IfOk, IfErr};
+ghost use Rattle.std.specs.Prelude.{◌+◌, IfOk, IfErr};
 ghost use Rattle.fc_io.specs.Moves.{GivesAtMost};
 ghost use Rattle.fc_moves.specs.GameRules.{IsPositionOf};
-ghost use Rattle.fc_replay.specs.Token.{move_tokens};
 ghost use Rattle.fc_board_runs.specs.Devices.{change};
-ghost use Rattle.fc_board_runs.specs.inner.Fault.{list_fault};
-ghost use Rattle.fc_board_runs.specs.Sequences.{IsExpanded, IsListFaultAs, IsPlayed, IsUnplayed, IsUnread, SpellPairs};
+ghost use Rattle.fc_board_runs.specs.Sequences.{IsListFaultAs, IsPlayed};
 
 use crate::faults::{Input, Output, ProgramFault, read_fault};
-use crate::runs::LONGEST_MOVES;
 use fc_io::{Sink, Source, read_to_vec};
-use fc_moves::{Game, Move};
+use fc_lists::{LONGEST_MOVES, expand_entries};
+use fc_moves::Game;
 use fc_position::Position;
-use fc_replay::{Ended, MoveGaps, Page, ReplayFault, play};
-use fc_sequences::{ListFault, Pair, expand, read_pair};
-use fc_text::Tokens;
+use fc_replay::{Ended, Page, play};
 use std::alloc::Global;
 
 /// Reads a list in standard notation whose entries may move sequences, expands it to one-card moves from a position of the
@@ -49,75 +45,12 @@ pub fn run_replay_sequences<G: Game, M: Source, K: Sink>(
         Ok(text) => text,
         Err(fault) => return Err(read_fault(Input::Moves, fault)),
     };
-    let steps = expand_text(alloc, game, start, text.as_slice(), LONGEST_MOVES)?;
-    match play(game, start, steps.as_slice(), page, out) {
+    let expansion = match expand_entries(alloc, game, start, text.as_slice(), LONGEST_MOVES) {
+        Ok(expansion) => expansion,
+        Err(fault) => return Err(ProgramFault::from(fault)),
+    };
+    match play(game, start, expansion.moves.as_slice(), page, out) {
         Ok(ended) => Ok(ended),
         Err(_) => Err(ProgramFault::Write(Output::Answer)),
-    }
-}
-
-// The one-card moves of the first entries of a text, at most so many, which are at most 4,294,967,295.
-pub(crate) fn expand_text<G: Game>(
-    alloc: Global,
-    game: &G,
-    position: &Position,
-    text: &[u8],
-    most: usize,
-) -> Result<Vec<Move>, ProgramFault>
-    requires fits { IsPositionOf (G.game game.now) position.now }
-    requires short { length text.now ≤ LONGEST_MOVES }
-    ensures expanded { IfOk result (λ moves. IsExpanded (G.game game.now) position.now (take most (move_tokens text.now)) moves.items) }
-    ensures few { IfOk result (λ moves. length moves.items ≤ 4294967295) }
-    ensures fault { IfErr result (IsUnplayed (G.game game.now) position.now (take most (move_tokens text.now))) }
-{
-    let pairs = read_pairs(alloc, text, most)?;
-    let moves = match expand(alloc, game, position, pairs.as_slice()) {
-        Ok(moves) => moves,
-        Err(fault) => return Err(list_fault(fault)),
-    };
-    if moves.len() > u32::MAX as usize {
-        return Err(ProgramFault::TooLong(Input::Moves));
-    }
-    Ok(moves)
-}
-
-// The first entries of a text, at most so many.
-fn read_pairs(alloc: Global, text: &[u8], most: usize) -> Result<Vec<Pair>, ProgramFault>
-    requires short { length text.now ≤ LONGEST_MOVES }
-    ensures spelled { IfOk result (λ pairs. SpellPairs (take most (move_tokens text.now)) pairs.items) }
-    ensures few { IfOk result (λ pairs. length pairs.items ≤ LONGEST_MOVES) }
-    ensures fault { IfErr result (IsUnread (take most (move_tokens text.now))) }
-{
-    let mut pairs = Vec::new(alloc);
-    for token in Tokens::new(text, MoveGaps) {
-        if pairs.len() >= most {
-            return Ok(pairs);
-        }
-        let Some(pair) = read_pair(token) else {
-            return Err(no_entry(pairs.len()));
-        };
-        let Ok(()) = pairs.push(pair) else {
-            return Err(ProgramFault::Memory);
-        };
-    }
-    Ok(pairs)
-}
-
-// The fault of a token that is no entry, behind so many that are.
-pub(crate) fn no_entry(before: usize) -> ProgramFault
-    requires few { before ≤ LONGEST_MOVES }
-    ensures value { result ≡ ProgramFault.Moves (ReplayFault.BadMove (before + 1)) }
-{
-    ProgramFault::Moves(ReplayFault::BadMove(before as u32 + 1))
-}
-
-// The fault of a list that isn't expanded.
-fn list_fault(fault: ListFault) -> ProgramFault
-    ensures value { result ≡ list_fault fault }
-{
-    match fault {
-        ListFault::Refused(step) => ProgramFault::Moves(ReplayFault::NotAllowed(step)),
-        ListFault::TooMany(step) => ProgramFault::TooManyWays(step),
-        ListFault::Memory => ProgramFault::Memory,
     }
 }

@@ -6,9 +6,10 @@ ghost use Rattle.fc_board_runs.specs.Devices.{change};
 ghost use Rattle.fc_board_runs.specs.Runs.{IsDealt, IsDealFault, IsReplayed, IsReplayFault};
 
 use crate::faults::{Output, ProgramFault};
-use crate::runs::{LONGEST_BOARD, LONGEST_MOVES, read_position, run_replay_as};
+use crate::runs::{LONGEST_BOARD, read_position, run_replay_as};
 use fc_deal::{deal, deal_text};
 use fc_io::{Sink, Source, write_all};
+use fc_lists::LONGEST_MOVES;
 use fc_moves::Game;
 use fc_replay::Page;
 use std::alloc::Global;

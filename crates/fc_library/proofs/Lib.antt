@@ -1,3 +1,4 @@
 pub mod BelowLemmas
 pub mod HeldLemmas
+pub mod SequenceLemmas
 pub mod SpelledLemmas

@@ -5,7 +5,7 @@ use Rattle.fc_replay.specs.Played.{ReplaysAs, sink_change}
 use Rattle.fc_replay.specs.Token.{move_tokens}
 use Rattle.fc_replay.specs.declared.pages.Page.TheVariants as page
 use Rattle.fc_replay.specs.declared.replays.Ended.{Ended}
-use Rattle.fc_board_runs.specs.declared.runs.TheConstants.{LONGEST_MOVES}
+use Rattle.fc_lists.specs.declared.list_plays.TheConstants.{LONGEST_MOVES}
 use Rattle.fc_library.specs.Boards.{IsTextFault, SpellsOnceTidy}
 use Rattle.fc_library.specs.Games.{IsNamed, game_named}
 use Rattle.fc_library.specs.declared.game_names.GameName.{GameName}

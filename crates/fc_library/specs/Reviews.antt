@@ -7,7 +7,7 @@ use Rattle.fc_answers.specs.declared.answers.Outcome.{Outcome}
 use Rattle.fc_answers.specs.declared.answers.Outcome.TheVariants as outcome
 use Rattle.fc_answers.specs.declared.answers.Verdict.{Verdict}
 use Rattle.fc_answers.specs.declared.answers.Verdict.TheVariants.{Shortest, Won, CannotWin, GaveUp}
-use Rattle.fc_board_runs.specs.declared.runs.TheConstants.{LONGEST_MOVES}
+use Rattle.fc_lists.specs.declared.list_plays.TheConstants.{LONGEST_MOVES}
 use Rattle.fc_methods.specs.Method.{QuestionData}
 use Rattle.fc_replay.specs.Played.{SpellMoves}
 use Rattle.fc_replay.specs.Token.{move_tokens}
@@ -15,7 +15,7 @@ use Rattle.fc_replay.specs.declared.faults.ReplayFault.TheVariants.{NotAllowed}
 use Rattle.fc_review.specs.Finding.{IsFinding, TellsFinding, finding_status}
 use Rattle.fc_review.specs.Review.{Loses}
 use Rattle.fc_review.specs.Texts.{losing_of}
-use Rattle.fc_review.specs.Weaving.{IsRefusedMove, IsWoven}
+use Rattle.fc_lists.specs.Weaving.{IsRefusedMove, IsWoven}
 use Rattle.fc_review.specs.declared.known_boards.KnownBoard.{KnownBoard}
 use Rattle.fc_review.specs.declared.findings.Finding.{Finding}
 use Rattle.fc_review.specs.declared.findings.Finding.TheVariants.{Rated, Traced}

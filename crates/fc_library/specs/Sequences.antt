@@ -6,11 +6,11 @@ use Rattle.fc_replay.specs.Played.{PlaysAs, sink_change}
 use Rattle.fc_replay.specs.Token.{move_tokens}
 use Rattle.fc_replay.specs.declared.pages.Page.TheVariants as page
 use Rattle.fc_replay.specs.declared.replays.Ended.{Ended}
-use Rattle.fc_board_runs.specs.Sequences.{IsExpanded, IsUnplayed}
-use Rattle.fc_board_runs.specs.declared.faults.Input.TheVariants.{Moves as of_moves}
-use Rattle.fc_board_runs.specs.declared.faults.ProgramFault.{ProgramFault}
-use Rattle.fc_board_runs.specs.declared.faults.ProgramFault.TheVariants as program
-use Rattle.fc_board_runs.specs.declared.runs.TheConstants.{LONGEST_MOVES}
+use Rattle.fc_replay.specs.declared.faults.ReplayFault.TheVariants.{BadMove, NotAllowed}
+use Rattle.fc_lists.specs.Plays.{IsExpanded, IsUnplayed}
+use Rattle.fc_lists.specs.declared.faults.PlayFault.{PlayFault}
+use Rattle.fc_lists.specs.declared.faults.PlayFault.TheVariants as unplayed
+use Rattle.fc_lists.specs.declared.list_plays.TheConstants.{LONGEST_MOVES}
 use Rattle.fc_library.specs.Boards.{IsTextFault, SpellsOnceTidy}
 use Rattle.fc_library.specs.Games.{IsNamed, game_named}
 use Rattle.fc_library.specs.Replays.{CanBeReplayed}
@@ -33,7 +33,7 @@ pub record IsSequencesTold (name : GameName) (text list : List ℕ) (told : Told
   pub place : told.place ≡ 0
 
 -- a board of a game was given and a list that isn't too long, whose entries aren't played for this
-abbrev pub IsUnplayedList : GameName → List ℕ → List ℕ → ProgramFault → Type 0
+abbrev pub IsUnplayedList : GameName → List ℕ → List ℕ → PlayFault → Type 0
 IsUnplayedList name text list fault = (start : Board) × CanBeReplayed name text list start × IsUnplayed (game_named name) start (move_tokens list) fault
 
 -- why a list wasn't played to its end, each fault only where those before it have no cause
@@ -42,8 +42,9 @@ IsSequencesRefused name text list refused.Game = IsNamed name → ⊥
 IsSequencesRefused name text list (refused.Board fault) = IsNamed name × IsTextFault name.cells text fault
 IsSequencesRefused name text list refused.TooLong =
     (IsNamed name × ((start : Board) × SpellsOnceTidy name.cells text start) × (LONGEST_MOVES < length list))
-    ⊎ IsUnplayedList name text list (program.TooLong of_moves)
-IsSequencesRefused name text list (refused.Moves fault) = IsUnplayedList name text list (program.Moves fault)
-IsSequencesRefused name text list (refused.TooManyWays step) = IsUnplayedList name text list (program.TooManyWays step)
+    ⊎ IsUnplayedList name text list unplayed.TooLong
+IsSequencesRefused name text list (refused.Moves (BadMove step)) = IsUnplayedList name text list (unplayed.NoEntry step)
+IsSequencesRefused name text list (refused.Moves (NotAllowed step)) = IsUnplayedList name text list (unplayed.NotAllowed step)
+IsSequencesRefused name text list (refused.TooManyWays step) = IsUnplayedList name text list (unplayed.TooManyWays step)
 IsSequencesRefused name text list refused.Memory = (start : Board) × CanBeReplayed name text list start
 IsSequencesRefused name text list other = ⊥

@@ -6,7 +6,7 @@ ghost use Rattle.fc_replay.specs.Token.{move_tokens};
 ghost use Rattle.fc_library.specs.Lists.{IsMisspelled, below_first_line, moves_in};
 
 use crate::call_refusals::CallRefusal;
-use fc_board_runs::LONGEST_MOVES;
+use fc_lists::LONGEST_MOVES;
 use fc_moves::Move;
 use fc_replay::{MoveGaps, ReplayFault, read_token};
 use fc_text::Tokens;

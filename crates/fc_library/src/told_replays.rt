@@ -7,7 +7,7 @@ use crate::game_names::{GameName, game_of};
 use crate::sinks::ToVec;
 use crate::told_answers::Told;
 use crate::typed_boards::start_of;
-use fc_board_runs::LONGEST_MOVES;
+use fc_lists::LONGEST_MOVES;
 use fc_moves::Game;
 use fc_replay::{Page, replay_as};
 use std::alloc::Global;

@@ -18,12 +18,12 @@ use crate::sinks::ToVec;
 use crate::spelled_lists::moves_of;
 use crate::told_answers::Told;
 use fc_answers::{Outcome, Verdict};
-use fc_board_runs::LONGEST_MOVES;
+use fc_lists::{LONGEST_MOVES, WeaveFault, weave};
 use fc_methods::Question;
 use fc_moves::{Game, Move};
 use fc_position::Position;
 use fc_replay::ReplayFault;
-use fc_review::{Finding, WeaveFault, find, finding_text, weave};
+use fc_review::{Finding, find, finding_text};
 use std::alloc::Global;
 
 /// What is found of a list of moves, from a board of the game of this name, by best answers within a budget of 1 to 16,000,000

@@ -8,10 +8,9 @@ use crate::game_names::{GameName, game_of};
 use crate::sinks::ToVec;
 use crate::told_answers::Told;
 use crate::typed_boards::start_of;
-use fc_board_runs::{LONGEST_MOVES, ProgramFault, run_replay_sequences};
-use fc_io::FromSlice;
+use fc_lists::{LONGEST_MOVES, PlayFault, expand_entries};
 use fc_moves::Game;
-use fc_replay::Page;
+use fc_replay::{Page, ReplayFault, play};
 use std::alloc::Global;
 
 /// The boards after the first one-card move of a list, the second, and so on, from a board of the game of this name; an entry of
@@ -41,27 +40,38 @@ pub fn replay_sequences(
     if list.len() > LONGEST_MOVES {
         return Err(CallRefusal::TooLong);
     }
-    let mut source = FromSlice::new(list);
+    let expansion = match expand_entries(alloc, &game, &start, list, LONGEST_MOVES) {
+        Ok(expansion) => expansion,
+        Err(fault) => return Err(refusal_of(fault)),
+    };
     let mut boards = ToVec::new(alloc);
-    match run_replay_sequences(alloc, &game, &start, &mut source, Page::Board, &mut boards) {
+    match play(
+        &game,
+        &start,
+        expansion.moves.as_slice(),
+        Page::Board,
+        &mut boards,
+    ) {
         Ok(ended) => Ok(Told {
             status: if ended.is_won { 0 } else { 3 },
             place: 0,
             outcome: None,
             text: boards.into_bytes(),
         }),
-        Err(fault) => Err(refusal_of(fault)),
+        // (writing to memory fails for want of it alone)
+        Err(_) => Err(CallRefusal::Memory),
     }
 }
 
-// The refusal that tells a fault of a replay. Reading from memory doesn't fail, and writing there fails for want of it alone.
-fn refusal_of(fault: ProgramFault) -> CallRefusal
+// The refusal that tells a fault of entries; a whole list never ends too soon.
+fn refusal_of(fault: PlayFault) -> CallRefusal
     ensures value { result ≡ refusal_of fault }
 {
     match fault {
-        ProgramFault::Moves(fault) => CallRefusal::Moves(fault),
-        ProgramFault::TooManyWays(step) => CallRefusal::TooManyWays(step),
-        ProgramFault::TooLong(_) => CallRefusal::TooLong,
-        _ => CallRefusal::Memory,
+        PlayFault::NoEntry(step) => CallRefusal::Moves(ReplayFault::BadMove(step)),
+        PlayFault::NotAllowed(step) => CallRefusal::Moves(ReplayFault::NotAllowed(step)),
+        PlayFault::TooManyWays(step) => CallRefusal::TooManyWays(step),
+        PlayFault::TooLong => CallRefusal::TooLong,
+        PlayFault::ListEnds(_) | PlayFault::Memory => CallRefusal::Memory,
     }
 }

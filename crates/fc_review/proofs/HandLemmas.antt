@@ -12,10 +12,9 @@ use Rattle.fc_moves.specs.Step.{Step}
 use Rattle.fc_moves.proofs.StepLemmas.{run_keeps, run_once, step_keeps, step_once}
 use Rattle.fc_sequences.specs.declared.pairs.Pair.{Pair}
 use Rattle.fc_sequences.specs.Gathering.{AreOneEntry, Gathers, IsGathered}
-use Rattle.fc_home.proofs.SettleLemmas.{total}
 use Rattle.fc_review.specs.Hands.{AreByHand, GoesByItself}
 use Rattle.fc_review.specs.inner.Goers.{GoByThemselves}
-use Rattle.fc_review.proofs.WeaveLemmas.{home_more}
+use Rattle.fc_lists.proofs.WeaveLemmas.{home_more, total}
 
 -- no step takes a card from home
 more_home : (g : GameRules) (b c : Board) (m : Move) (to : Place) → m.to ≡ to → IsPositionOf g b → Step g b m c → total b.homes ≤ total c.homes

@@ -4,4 +4,3 @@ pub mod HandLemmas
 pub mod RatingLemmas
 pub mod ReviewLemmas
 pub mod SpanLemmas
-pub mod WeaveLemmas

@@ -3,5 +3,4 @@ pub mod Hands
 pub mod Rating
 pub mod Review
 pub mod Texts
-pub mod Weaving
 pub mod inner

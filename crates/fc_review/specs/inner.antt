@@ -1,4 +1,3 @@
 -- What this crate's own functions and proofs speak of, and no public promise.
 pub mod Span
 pub mod Goers
-pub mod Ways

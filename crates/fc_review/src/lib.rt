@@ -1,5 +1,5 @@
-//! What became of a game: where a list of moves lost it, how good a list is that wins, lists that leave out moves home, and how many
-//! entries of a list are left to a player's hands.
+//! What became of a game: where a list of moves lost it, how good a list is that wins, and how many entries of a list are left to a
+//! player's hands.
 #![tactic(auto)]
 
 pub use findings::{Finding, find, finding_text, run_review};
@@ -9,8 +9,6 @@ pub use known_boards::{KnownBoard, board_after, known_after, wins};
 pub use ratings::{Rating, rate};
 pub use review_lines::{rating_status, rating_text, review_status, review_text};
 pub use reviews::{Review, review_of};
-pub use weaving::{WeaveFault, Woven, weave, weave_entries};
-pub use written_entries::Entry;
 
 mod findings;
 mod hands;
@@ -20,5 +18,3 @@ mod ratings;
 mod review_lines;
 mod reviews;
 mod spans;
-mod weaving;
-mod written_entries;

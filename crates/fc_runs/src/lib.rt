@@ -8,9 +8,8 @@ pub use checking::run_check_of;
 pub use deal_batches::{MOST_DEALS, run_answers};
 pub use delivering::run_answer;
 pub use fc_board_runs::{
-    Input, LONGEST_BOARD, LONGEST_MOVES, ListQuestion, ListWants, Look, Output, ProgramFault,
-    list_board, list_moves, read_position, run_deal, run_list, run_replay, run_replay_as,
-    run_replay_sequences, run_show,
+    Input, LONGEST_BOARD, Look, Output, ProgramFault, read_position, run_deal, run_list,
+    run_replay, run_replay_as, run_replay_sequences, run_show,
 };
 pub use printable_lists::PrintableList;
 pub use tabling::{RowListener, run_table, table_deals, table_head};

@@ -3,11 +3,11 @@
 ghost use Rattle.std.specs.Prelude.{◌≡◌, All, IfOk};
 ghost use Rattle.fc_moves.specs.MoveText.{HasText};
 ghost use Rattle.fc_answers.specs.Verdict.{CanBeWritten};
-ghost use Rattle.fc_answer_text.specs.AnswerText.{moves_line};
+ghost use Rattle.fc_lists.specs.ListText.{moves_line};
 ghost use Rattle.fc_runs.specs.Lists.{list_of};
 
-use fc_answer_text::moves_text;
 use fc_answers::{MoveList, Verdict};
+use fc_lists::moves_text;
 use fc_moves::Move;
 use std::alloc::{AllocError, Global};
 use std::marker::Model;

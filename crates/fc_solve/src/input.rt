@@ -7,6 +7,5 @@ pub mod column_lengths;
 pub mod command_games;
 pub mod moves;
 pub mod pair_lists;
-pub mod printed_lists;
 pub mod streams;
 pub mod written_lists;

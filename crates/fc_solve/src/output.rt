@@ -7,7 +7,6 @@ pub mod cert_names;
 pub mod certs;
 pub mod endings;
 pub mod entry_pages;
-pub mod file_lines;
 pub mod found_answers;
 pub mod hand_counts;
 pub mod hand_entries;

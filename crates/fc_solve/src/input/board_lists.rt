@@ -3,6 +3,7 @@
 use crate::input::board_sources::open;
 use crate::output::endings::{Ending, tell, tell_of_reading};
 use fc_io::{FromReader, ReadFault, read_to_vec};
+use fc_notes::{ListedBoard, ListedBoards};
 use fc_runs::{Input, ProgramFault};
 
 // The most bytes that such a file may have.
@@ -29,36 +30,17 @@ pub fn read_list(rt: &HostRuntime, path: &str, input: Input) -> Result<Vec<u8>, 
 /// The text of the board in a list that stands behind so many others, and how many lines stand above it; what has nothing but blanks
 /// is no board.
 pub fn board_behind(list: &[u8], before: u64) -> Option<(&[u8], u32)> {
-    let (mut begin, mut next, mut left) = (0usize, 0usize, before);
-    let (mut above, mut number) = (0u32, 0u32);
-    for line in list.split(|byte| *byte == b'\n') {
-        let end = next;
-        next = next.saturating_add(line.len()).saturating_add(1);
-        number = number.saturating_add(1);
-        if !is_rule(line) {
-            continue;
-        }
-        let (text, lines) = (list.get(begin..end)?, above);
-        (begin, above) = (next, number);
-        if is_blank(text) {
-            continue;
-        }
+    let mut left = before;
+    for board in ListedBoards::of(list) {
         if left == 0 {
-            return Some((text, lines));
+            return Some((board.text, lines_above(&board)));
         }
         left -= 1;
     }
-    let text = list.get(begin..)?;
-    (left == 0 && !is_blank(text)).then_some((text, above))
+    None
 }
 
-/// Whether a line parts boards: three dashes or more, and blanks.
-pub fn is_rule(line: &[u8]) -> bool {
-    let line = line.trim_ascii();
-    line.len() >= 3 && line.iter().all(|byte| *byte == b'-')
-}
-
-/// Whether a text has nothing but blanks.
-pub fn is_blank(text: &[u8]) -> bool {
-    text.iter().all(|byte| byte.is_ascii_whitespace())
+/// How many lines of its file stand above a board.
+pub fn lines_above(board: &ListedBoard<'_>) -> u32 {
+    u32::try_from(board.above).unwrap_or(u32::MAX)
 }

@@ -5,16 +5,16 @@ ghost use Rattle.fc_position.specs.Position.{Fits};
 use crate::input::apart::INPUT;
 use crate::input::board_lists::{board_behind, read_list};
 use crate::input::column_lengths::{
-    note_in_columns, note_in_rows, note_lengths, note_reversed, note_rows, note_short_rows,
+    note_reversed, note_rows, note_short_rows, tell_of_columns, tell_of_rows,
 };
 use crate::output::endings::{
     Ending, REFUSED, tell_of_board, tell_of_file, tell_of_length, tell_of_reading, tell_of_row_text,
 };
-use crate::output::notes::BoardText;
 use crate::output::token_fronts::{front_of, rest_of};
 use arrayvec::ArrayVec;
 use fc_deal::{MOST_DEAL, deal};
 use fc_io::{FromReader, FromSlice, ReadFault, Source, read_up_to};
+use fc_notes::BoardText;
 use fc_position::Position;
 use fc_row_text::columns_of_row_text;
 use fc_runs::{Input, ProgramFault, read_position};
@@ -298,16 +298,12 @@ fn read_text(
         };
         let start = read_columns(rt, &made, words.is_guessed, cells)?;
         note_short_rows(rt, &start, text);
-        if !note_lengths(rt, &start, &[], cells) {
-            note_in_columns(rt, &start, text.tidy, cells);
-        }
+        tell_of_rows(rt, &start, text.tidy, cells);
         return Ok(start);
     }
     match read_columns(rt, text, words.is_guessed, cells) {
         Ok(start) => {
-            if !note_lengths(rt, &start, text.tidy, cells) {
-                note_in_rows(rt, &start, text.tidy, cells);
-            }
+            tell_of_columns(rt, &start, text.tidy, cells);
             Ok(start)
         }
         Err(ending) => {

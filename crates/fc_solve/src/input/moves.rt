@@ -1,15 +1,18 @@
 //! What is read beside a board, lists of moves and certificates: where it comes from, how a list is read, and what is said at its
 //! end.
+ghost use Rattle.std.specs.Prelude.{All, IfOk};
 ghost use Rattle.fc_moves.specs.GameRules.{IsPositionOf};
+ghost use Rattle.fc_moves.specs.MoveText.{HasText};
 
 use crate::input::board_sources::open;
 use crate::output::endings::Ending;
 use fc_cards::Place;
 use fc_io::{FromReader, ReadFault, read_to_vec};
+use fc_lists::{LONGEST_MOVES, ListQuestion, ListWants, list_moves};
 use fc_moves::{Game, Move};
 use fc_position::Position;
 use fc_replay::Ended;
-use fc_runs::{Input, LONGEST_MOVES, ListQuestion, ListWants, ProgramFault, list_moves};
+use fc_runs::{Input, ProgramFault};
 use fc_words::FileWord;
 use std::alloc::{AllocError, Global};
 use std::fs::File;
@@ -63,6 +66,7 @@ pub fn moves_played<G: Game>(
     has_sequences: bool,
 ) -> Result<Vec<Move>, ProgramFault>
     requires position { IsPositionOf (G.game game.now) start.now }
+    ensures texts { IfOk result (λ moves. All HasText moves.items) }
 {
     let wants = ListWants::Line;
     let question = ListQuestion {
@@ -84,11 +88,12 @@ pub fn moves_asked<G: Game>(
     question: ListQuestion,
 ) -> Result<Vec<Move>, ProgramFault>
     requires position { IsPositionOf (G.game game.now) start.now }
+    ensures texts { IfOk result (λ moves. All HasText moves.items) }
 {
     if list.len() > LONGEST_MOVES {
         return Err(ProgramFault::TooLong(Input::Moves));
     }
-    list_moves(alloc, game, start, list, question)
+    Ok(list_moves(alloc, game, start, list, question)?)
 }
 
 /// Appends a line of moves, two letters each with a blank between, without its end.

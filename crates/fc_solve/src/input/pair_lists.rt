@@ -3,12 +3,11 @@
 ghost use Rattle.fc_moves.specs.GameRules.{IsPositionOf};
 
 use fc_cards::Place;
+use fc_lists::{Expansion, LONGEST_MOVES, expand_entries};
 use fc_moves::{Game, Move, allows, apply};
 use fc_position::Position;
-use fc_replay::{MoveGaps, ReplayFault};
-use fc_runs::{Input, LONGEST_MOVES, ProgramFault};
-use fc_sequences::{ListFault, Pair, expand, read_pair};
-use fc_text::Tokens;
+use fc_runs::{Input, ProgramFault};
+use fc_sequences::Pair;
 use std::alloc::Global;
 
 /// The entries of a list, and the one-card moves to which they come.
@@ -20,35 +19,13 @@ pub fn expand_list<G: Game>(
     game: &G,
     start: &Position,
     list: &[u8],
-) -> Result<(Vec<Pair>, Vec<Move>), ProgramFault>
+) -> Result<Expansion, ProgramFault>
     requires position { IsPositionOf (G.game game.now) start.now }
 {
-    let pairs = read_pairs(alloc, list)?;
-    if pairs.len() > LONGEST_MOVES {
+    if list.len() > LONGEST_MOVES {
         return Err(ProgramFault::TooLong(Input::Moves));
     }
-    match expand(alloc, game, start, pairs.as_slice()) {
-        Ok(moves) => Ok((pairs, moves)),
-        Err(ListFault::Refused(step)) => Err(ProgramFault::Moves(ReplayFault::NotAllowed(step))),
-        Err(ListFault::TooMany(step)) => Err(ProgramFault::TooManyWays(step)),
-        Err(ListFault::Memory) => Err(ProgramFault::Memory),
-    }
-}
-
-// The entries of a list.
-fn read_pairs(alloc: Global, list: &[u8]) -> Result<Vec<Pair>, ProgramFault> {
-    let mut pairs = Vec::new(alloc);
-    let mut step = 0u32;
-    for token in Tokens::new(list, MoveGaps) {
-        step = step.saturating_add(1);
-        let Some(pair) = read_pair(token) else {
-            return Err(ProgramFault::Moves(ReplayFault::BadMove(step)));
-        };
-        let Ok(()) = pairs.push(pair) else {
-            return Err(ProgramFault::Memory);
-        };
-    }
-    Ok(pairs)
+    Ok(expand_entries(alloc, game, start, list, LONGEST_MOVES)?)
 }
 
 /// How many cards an entry moved, and how many moves it took.

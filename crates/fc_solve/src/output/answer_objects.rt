@@ -7,7 +7,7 @@ use fc_cert::Claim;
 use fc_json::{ToldBoard, object_text};
 use fc_runs::{Far, Row};
 use fc_words::BoardWord;
-use std::alloc::Global;
+use std::alloc::{AllocError, Global};
 
 /// What a board is called in an object.
 #[derive(Clone, Copy)]
@@ -42,6 +42,19 @@ impl<'a> Name<'a> {
             Name::Deal(_) => None,
             Name::Board(name) => Some(name),
         }
+    }
+
+    /// The name as a cell of a table: in it nothing parts cells or rows.
+    pub fn cell(self, alloc: Global) -> Result<String, AllocError> {
+        let name = match self {
+            Name::Deal(number) => return format!(in alloc; "{number}"),
+            Name::Board(name) => name,
+        };
+        let mut text = String::new(alloc);
+        for c in name.chars() {
+            text.push(if c.is_control() { '?' } else { c })?;
+        }
+        Ok(text)
     }
 }
 

@@ -3,10 +3,10 @@
 
 ghost use Rattle.std.specs.Prelude.{◌≤◌};
 
-use crate::output::file_lines::{in_file, row_in_file};
-use crate::output::notes::{BoardText, add_note};
+use crate::output::notes::add_note;
 use fc_cert::LONGEST_CERTIFICATE;
 use fc_methods::{MOST_GREAT_BUDGET, Sought};
+use fc_notes::{BoardText, in_file, is_blank, row_in_file};
 use fc_row_text::RowTextFault;
 use fc_runs::{Input, Output, ProgramFault};
 use fc_text::BoardFault;
@@ -130,7 +130,7 @@ pub fn tell_of_board(
 {
     let status = tell_in_file(rt, &fault, text);
     if let ProgramFault::Board(fault) = fault {
-        if text.tidy.iter().all(|byte| byte.is_ascii_whitespace()) {
+        if is_blank(text.tidy) {
             let _told = eprintln!(rt; "fc_solve: {NO_BOARD}");
         } else {
             add_note(rt, fault, text, cells);

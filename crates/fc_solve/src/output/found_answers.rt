@@ -9,10 +9,11 @@ ghost use Rattle.fc_runs.specs.Lists.{list_of};
 ghost use Rattle.fc_runs.specs.Rows.{IsAnswerOf};
 
 use crate::output::certs::UNWRITTEN;
-use fc_answer_text::{moves_text, outcome_of, verdict_status, verdict_text};
+use fc_answer_text::{outcome_of, verdict_status, verdict_text};
 use fc_answers::{Answer, MoveList, Outcome, Verdict};
 use fc_best::{Listener, Wants, answer};
 use fc_io::Sink;
+use fc_lists::moves_text;
 use fc_methods::Question;
 use fc_moves::{Game, Move};
 use fc_position::Position;

@@ -9,9 +9,10 @@ use crate::output::entry_pages::{EntryPage, write_entries};
 use crate::output::found_answers::Answered;
 use crate::output::outputs::Out;
 use fc_io::write_all;
+use fc_lists::LONGEST_MOVES;
 use fc_moves::{Game, Move};
 use fc_position::Position;
-use fc_runs::{Input, LONGEST_MOVES, ProgramFault};
+use fc_runs::{Input, ProgramFault};
 use fc_sequences::{Pair, expand, gather, print_pair};
 use std::alloc::{AllocError, Global};
 

@@ -136,8 +136,7 @@ fn push_coded(text: &mut Vec<u8>, bytes: &[u8], blank: &[u8]) -> Result<(), Allo
 // A digit of sixteen.
 fn hex_digit(value: u8) -> u8 {
     match value {
-        0..=9 => b'0' + value,
-        10..=15 => b'A' + (value - 10),
-        _ => b'0',
+        0..=9 => b'0'.saturating_add(value),
+        _ => b'A'.saturating_add(value.saturating_sub(10)),
     }
 }

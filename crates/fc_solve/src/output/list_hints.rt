@@ -2,11 +2,10 @@
 ghost use Rattle.fc_moves.specs.GameRules.{IsPositionOf};
 
 use crate::input::pair_lists::expand_list;
-use crate::input::printed_lists::entries_alone;
+use fc_lists::{LONGEST_MOVES, entries_alone};
 use fc_moves::Game;
 use fc_position::Position;
 use fc_replay::ReplayFault;
-use fc_runs::LONGEST_MOVES;
 
 /// Says of a list's text that is refused so what helps: that it plays once its entries may move several cards; that it has boards
 /// and no moves; or that a solver found none.

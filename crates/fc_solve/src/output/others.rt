@@ -1,10 +1,10 @@
 //! Whether the whole of a list that is refused in one game can be played in the other, with the same cells and kings.
 
 use crate::input::pair_lists::expand_list;
+use fc_lists::LONGEST_MOVES;
 use fc_moves::{BakersGame, EitherGame, FreeCell, Game, Kings};
 use fc_position::Position;
 use fc_replay::first_stop;
-use fc_runs::LONGEST_MOVES;
 use fc_words::{GameName, GameWords, ReplayWords};
 use std::alloc::Global;
 

@@ -5,10 +5,11 @@ ghost use Rattle.fc_moves.specs.GameRules.{IsPositionOf};
 
 use crate::output::token_fronts::{front_of, rest_of};
 use fc_cards::{Card, Place};
+use fc_lists::{LONGEST_MOVES, ListQuestion, ListWants, list_board};
 use fc_moves::{Game, Move, Refusal, refusal_of};
 use fc_position::Position;
 use fc_replay::{MoveGaps, RefusedMove, ReplayFault, Stop, first_stop};
-use fc_runs::{LONGEST_MOVES, ListQuestion, ListWants, ProgramFault, list_board};
+use fc_runs::ProgramFault;
 use fc_sequences::{Pair, read_pair};
 use fc_text::Tokens;
 use std::alloc::Global;

@@ -1,10 +1,11 @@
 //! `replay --json`: how a list ended, and its moves, as an object.
 ghost use Rattle.fc_moves.specs.GameRules.{IsPositionOf};
 
-use crate::input::moves::{moves_played, push_letters};
+use crate::input::moves::moves_played;
 use crate::output::answer_objects::{Name, list_line};
 use crate::output::endings::Ending;
 use crate::output::hand_counts::by_hand_of;
+use fc_lists::push_moves;
 use fc_methods::HomeRule;
 use fc_moves::{Game, Move, allows, apply};
 use fc_position::Position;
@@ -34,7 +35,7 @@ pub fn replay_line<G: Game>(
         Err(Ending::Told(_)) => return Err(ProgramFault::Memory),
     };
     let mut letters = Vec::new(alloc);
-    push_letters(&mut letters, moves.as_slice())?;
+    push_moves(&mut letters, moves.as_slice())?;
     let Ok(count) = u32::try_from(moves.len()) else {
         return Err(ProgramFault::TooLong(Input::Moves));
     };

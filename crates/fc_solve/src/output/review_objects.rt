@@ -99,10 +99,11 @@ pub const REVIEW_HEAD: &str =
 
 /// The row of a list.
 pub fn review_row(alloc: Global, told: &ToldList<'_>) -> Result<String, AllocError> {
-    let mut row = match told.deal {
-        Some(number) => format!(in alloc; "{number}")?,
-        None => name_in_row(alloc, told.board.unwrap_or(""))?,
+    let name = match told.deal {
+        Some(number) => Name::Deal(number),
+        None => Name::Board(told.board.unwrap_or("")),
     };
+    let mut row = name.cell(alloc)?;
     row.push('\t')?;
     row.push_str(told.review)?;
     for number in [
@@ -120,15 +121,6 @@ pub fn review_row(alloc: Global, told: &ToldList<'_>) -> Result<String, AllocErr
     push_number(alloc, &mut row, told.lost_after)?;
     row.push('\n')?;
     Ok(row)
-}
-
-// A name in which nothing parts cells or rows.
-fn name_in_row(alloc: Global, name: &str) -> Result<String, AllocError> {
-    let mut text = String::new(alloc);
-    for c in name.chars() {
-        text.push(if c.is_control() { '?' } else { c })?;
-    }
-    Ok(text)
 }
 
 // Appends a cell with a number, if there is one.

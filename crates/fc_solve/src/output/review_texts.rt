@@ -13,33 +13,40 @@ pub fn moves_win(count: usize) -> &'static str {
 }
 
 /// A move from this board by its letters, and in words.
-pub fn told_move(alloc: Global, board: &Position, m: Move) -> Result<String, AllocError>
+pub fn told_move(alloc: Global, board: &Position, m: Move) -> Result<Vec<u8>, AllocError>
     requires text { HasText m }
 {
-    let (letters, told) = (move_text(m), ToldMove::of(1, board, m));
-    let phrase = told.phrase(false);
-    let letters = std::str::from_utf8(&letters).unwrap_or("");
-    let phrase = std::str::from_utf8(&phrase).unwrap_or("");
-    format!(in alloc; "{letters} ({phrase})")
+    let mut text = Vec::from_slice(alloc, &move_text(m))?;
+    text.extend_from_slice(b" (")?;
+    text.extend_from_slice(&ToldMove::of(1, board, m).phrase(false))?;
+    text.push(b')')?;
+    Ok(text)
 }
 
 /// The line of the board after so many moves: their number, the last of them, and the answer.
 pub fn line_of(
     alloc: Global,
     after: usize,
-    last: &str,
+    last: &[u8],
     verdict: &Verdict,
-) -> Result<String, AllocError> {
-    match verdict {
+) -> Result<Vec<u8>, AllocError> {
+    let answer = match verdict {
         Verdict::Shortest(moves) => {
             let count = moves.len();
-            format!(in alloc; "{after}\t{last}\tshortest {count}\n")
+            format!(in alloc; "shortest {count}")?
         }
         Verdict::Won { moves, floor } => {
             let count = moves.len();
-            format!(in alloc; "{after}\t{last}\twon {count}, at least {floor}\n")
+            format!(in alloc; "won {count}, at least {floor}")?
         }
-        Verdict::CannotWin => format!(in alloc; "{after}\t{last}\tcan't be won\n"),
-        Verdict::GaveUp(budget) => format!(in alloc; "{after}\t{last}\tgave up {budget}\n"),
-    }
+        Verdict::CannotWin => String::from_str(alloc, "can't be won")?,
+        Verdict::GaveUp(budget) => format!(in alloc; "gave up {budget}")?,
+    };
+    let number = format!(in alloc; "{after}\t")?;
+    let mut line = Vec::from_slice(alloc, number.as_bytes())?;
+    line.extend_from_slice(last)?;
+    line.push(b'\t')?;
+    line.extend_from_slice(answer.as_bytes())?;
+    line.push(b'\n')?;
+    Ok(line)
 }

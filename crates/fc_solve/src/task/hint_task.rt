@@ -4,7 +4,6 @@ ghost use Rattle.fc_moves.specs.MoveText.{HasText};
 
 use crate::input::board_sources::{find_board, read_start};
 use crate::input::command_games::InGame;
-use crate::input::moves::push_letters;
 use crate::output::advice::advise_best;
 use crate::output::answer_forms::tell_whole;
 use crate::output::answer_objects::{Beside, Name, answer_line};
@@ -16,8 +15,9 @@ use crate::output::links::{PageLink, tell_link};
 use crate::output::review_texts::moves_win;
 use crate::output::watching::{Line, Teller};
 use fc_answers::Verdict;
+use fc_lists::push_moves;
 use fc_methods::{Question, Sought};
-use fc_moves::{Game, Move, allows, apply};
+use fc_moves::{Game, Move, allows, apply, move_text};
 use fc_position::Position;
 use fc_replay::ToldMove;
 use fc_words::HintWords;
@@ -91,7 +91,7 @@ fn tell_object(
     beside: Beside,
 ) -> Result<(), Ending> {
     let mut letters = Vec::new(rt.alloc());
-    push_letters(&mut letters, first_moves(answered.moves(), count))?;
+    push_moves(&mut letters, first_moves(answered.moves(), count))?;
     let hint = match letters.as_slice() {
         [] => None,
         first => std::str::from_utf8(first).ok(),
@@ -152,7 +152,7 @@ fn hint_text<G: Game>(
         let told = ToldMove::of(number, &board, *m);
         text.extend_from_slice(&told.phrase(is_coloured))?;
         text.extend_from_slice(b" (")?;
-        push_letters(&mut text, &[*m])?;
+        text.extend_from_slice(&move_text(*m))?;
         text.extend_from_slice(if is_one { b"); " } else { b")\n" })?;
         // (the moves are those of an answer, so each is allowed)
         if allows(game, &board, *m) {

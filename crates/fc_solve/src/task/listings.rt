@@ -2,7 +2,7 @@
 ghost use Rattle.fc_moves.specs.GameRules.{IsPositionOf};
 
 use crate::input::apart::keep_apart;
-use crate::input::board_lists::{is_blank, is_rule, read_list};
+use crate::input::board_lists::{lines_above, read_list};
 use crate::input::board_sources::{deal_for, read_board_below};
 use crate::output::answer_objects::{Name, fault_line, row_line};
 use crate::output::cert_names::cert_name;
@@ -15,11 +15,13 @@ use crate::output::watching::Line;
 use fc_io::write_all;
 use fc_methods::Question;
 use fc_moves::Game;
+use fc_notes::ListedBoards;
 use fc_position::Position;
 use fc_runs::{
     Input, Output, ProgramFault, Row, RowListener, answer_row, run_table, table_deals, table_head,
 };
 use fc_words::{BatchBoards, BatchForm, BatchWords};
+use std::alloc::{AllocError, Global};
 use std::fs;
 use std::io::IsTerminal;
 
@@ -175,10 +177,14 @@ impl<'a, G: Game + Drop> Desk<'a, G> {
     // Answers the boards of a file. One that can't be read, or has no board, is told as what is no board.
     fn answer_file(&mut self, path: &str) -> Result<(), Ending> {
         match read_list(self.rt, path, Input::Board) {
-            Ok(text) => match self.answer_list(path, text.as_slice())? {
-                0 => self.tell_no_board(path, REFUSED),
-                _ => Ok(()),
-            },
+            Ok(mut text) => {
+                // (the last line is told as one that ends, as the others are)
+                text.extend_from_slice(b"\n")?;
+                match self.answer_list(path, text.as_slice())? {
+                    0 => self.tell_no_board(path, REFUSED),
+                    _ => Ok(()),
+                }
+            }
             Err(Ending::Told(status)) => self.tell_no_board(path, status),
             Err(ending) => Err(ending),
         }
@@ -186,47 +192,29 @@ impl<'a, G: Game + Drop> Desk<'a, G> {
 
     // Answers the boards of a file's text, which lines of dashes part; how many there are.
     fn answer_list(&mut self, path: &str, text: &[u8]) -> Result<u64, Ending> {
-        let mut board = Vec::new(self.rt.alloc());
-        let (mut place, mut above, mut number) = (0, 0u32, 0u32);
-        for line in text.split(|byte| *byte == b'\n') {
-            number = number.saturating_add(1);
-            if is_rule(line) {
-                place = self.answer_text(path, place, above, board.as_slice())?;
-                board.clear();
-                above = number;
-            } else {
-                board.extend_from_slice(line)?;
-                board.extend_from_slice(b"\n")?;
-            }
+        let mut place = 0u64;
+        for board in ListedBoards::of(text) {
+            place = place.saturating_add(1);
+            self.answer_text(path, place, lines_above(&board), board.text)?;
         }
-        self.answer_text(path, place, above, board.as_slice())
+        Ok(place)
     }
 
-    // Answers the board of a text, which stands behind so many others and below so many lines in its file, unless it is blank; how
-    // many there are then.
+    // Answers the board of a text, which has this place in its file, below so many lines.
     fn answer_text(
         &mut self,
         path: &str,
-        before: u64,
+        place: u64,
         above: u32,
         text: &[u8],
-    ) -> Result<u64, Ending> {
-        if is_blank(text) {
-            return Ok(before);
-        }
-        let place = before.saturating_add(1);
+    ) -> Result<(), Ending> {
         let name = format!(in self.rt.alloc(); "{path}:{place}")?;
         let cells = self.question.game().cells();
         match read_board_below(self.rt, text, above, self.words.text, cells) {
-            Ok(start) => {
-                self.answer(Name::Board(name.as_str()), &start)?;
-            }
-            Err(Ending::Told(status)) => {
-                self.tell_no_board(name.as_str(), status)?;
-            }
-            Err(ending) => return Err(ending),
+            Ok(start) => self.answer(Name::Board(name.as_str()), &start),
+            Err(Ending::Told(status)) => self.tell_no_board(name.as_str(), status),
+            Err(ending) => Err(ending),
         }
-        Ok(place)
     }
 
     // Answers a board.
@@ -284,7 +272,7 @@ impl<'a, G: Game + Drop> Desk<'a, G> {
             _ => {
                 let cells = row.cells();
                 let cells = cells.as_str();
-                row_of(self.rt, name, cells)?
+                row_of(self.rt.alloc(), name, cells)?
             }
         };
         self.write(text.as_bytes())?;
@@ -300,7 +288,7 @@ impl<'a, G: Game + Drop> Desk<'a, G> {
         let name = Name::Board(name);
         let text = match self.words.form {
             BatchForm::Json => fault_line(self.rt.alloc(), name, NO_BOARD, None)?,
-            _ => row_of(self.rt, name, "\tno board\t\t\t\t\t\t\n")?,
+            _ => row_of(self.rt.alloc(), name, "\tno board\t\t\t\t\t\t\n")?,
         };
         self.write(text.as_bytes())?;
         self.status = self.status.max(status);
@@ -350,18 +338,9 @@ impl<'a, G: Game + Drop> Desk<'a, G> {
 // What the row is called that adds up.
 const TOTAL: &str = "total";
 
-// A row of a table: a name, in which nothing parts cells or rows, and the cells behind it.
-fn row_of(rt: &HostRuntime, name: Name<'_>, cells: &str) -> Result<String, Ending> {
-    let alloc = rt.alloc();
-    Ok(match name {
-        Name::Deal(number) => format!(in alloc; "{number}{cells}")?,
-        Name::Board(name) => {
-            let mut text = String::new(alloc);
-            for c in name.chars() {
-                text.push(if c.is_control() { '?' } else { c })?;
-            }
-            text.push_str(cells)?;
-            text
-        }
-    })
+// A row of a table: a name, and the cells behind it.
+fn row_of(alloc: Global, name: Name<'_>, cells: &str) -> Result<String, AllocError> {
+    let mut row = name.cell(alloc)?;
+    row.push_str(cells)?;
+    Ok(row)
 }

@@ -3,9 +3,8 @@ ghost use Rattle.fc_moves.specs.GameRules.{IsPositionOf};
 
 use crate::input::board_sources::{find_board, read_start};
 use crate::input::command_games::InGame;
-use crate::input::moves::{find_file, moves_asked, push_letters, read_moves, tell_end};
+use crate::input::moves::{find_file, moves_asked, read_moves, tell_end};
 use crate::input::pair_lists::expand_list;
-use crate::input::printed_lists::entries_alone;
 use crate::output::answer_forms::tell_whole;
 use crate::output::answer_objects::{Name, fault_line};
 use crate::output::endings::{Ending, REFUSED};
@@ -17,13 +16,11 @@ use crate::output::outputs::Out;
 use crate::output::refused_entries::{tell_move, tell_sequence};
 use crate::output::replay_objects::replay_line;
 use fc_io::{FromSlice, write_all};
+use fc_lists::{Expansion, ListQuestion, ListWants, entries_alone, push_moves};
 use fc_moves::Game;
 use fc_position::Position;
 use fc_replay::{Ended, Page, ReplayFault};
-use fc_runs::{
-    Input, ListQuestion, ListWants, Output, ProgramFault, run_list, run_replay_as,
-    run_replay_sequences,
-};
+use fc_runs::{Input, Output, ProgramFault, run_list, run_replay_as, run_replay_sequences};
 use fc_words::{ReplayForm, ReplayWords};
 use std::alloc::Global;
 use std::io::IsTerminal;
@@ -170,7 +167,7 @@ fn link_list<G: Game>(
     };
     let moves = moves_asked(rt.alloc(), game, start, list, question_of(wants, words))?;
     let mut letters = Vec::new(rt.alloc());
-    push_letters(&mut letters, moves.as_slice())?;
+    push_moves(&mut letters, moves.as_slice())?;
     if letters.len() >= LONGEST_LINE {
         let count = moves.len();
         let _told = eprintln!(rt; "fc_solve: {count} moves are too many for a link");
@@ -205,7 +202,7 @@ fn draw_entries<G: Game>(
 ) -> Result<Ended, ProgramFault>
     requires position { IsPositionOf (G.game game.now) start.now }
 {
-    let (pairs, moves) = expand_list(alloc, game, start, list)?;
+    let Expansion { entries, moves } = expand_list(alloc, game, start, list)?;
     let Ok(count) = u32::try_from(moves.len()) else {
         return Err(ProgramFault::TooLong(Input::Moves));
     };
@@ -213,7 +210,7 @@ fn draw_entries<G: Game>(
         has_board: true,
         is_coloured,
     };
-    match write_entries(game, start, pairs.as_slice(), moves.as_slice(), page, out) {
+    match write_entries(game, start, entries.as_slice(), moves.as_slice(), page, out) {
         Ok(is_won) => Ok(Ended {
             moves: count,
             is_won,

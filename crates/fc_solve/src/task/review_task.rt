@@ -23,13 +23,14 @@ use crate::output::review_objects::{FoundList, review_line};
 use crate::output::review_texts::{line_of, told_move};
 use crate::task::review_listings::review_files;
 use crate::task::review_outputs::{are_outputs_apart, path_of};
-use fc_answer_text::{moves_text, verdict_status};
+use fc_answer_text::verdict_status;
 use fc_answers::Verdict;
 use fc_best::Unheard;
+use fc_lists::{Woven, moves_text};
 use fc_methods::{Question, Sought};
 use fc_moves::{Game, Move, allows, apply};
 use fc_position::Position;
-use fc_review::{Finding, Woven, board_after, find, finding_text, known_after, run_review, wins};
+use fc_review::{Finding, board_after, find, finding_text, known_after, run_review, wins};
 use fc_runs::Input;
 use fc_text::print_board;
 use fc_words::{BoardWords, FileWord, GameWords, ReviewLists, ReviewWords};
@@ -312,10 +313,10 @@ fn answer_all<G: Game + Drop>(
         is_lost = matches!(verdict, Verdict::CannotWin);
         let last = match after.checked_sub(1) {
             Some(place) => told_and_made(rt.alloc(), question.game(), &mut board, moves[place])?,
-            None => String::from_str(rt.alloc(), "the board itself")?,
+            None => Vec::from_slice(rt.alloc(), b"the board itself")?,
         };
-        let line = line_of(rt.alloc(), after, last.as_str(), &verdict)?;
-        tell_whole(rt, line.as_bytes())?;
+        let line = line_of(rt.alloc(), after, last.as_slice(), &verdict)?;
+        tell_whole(rt, line.as_slice())?;
         status = verdict_status(&verdict);
     }
     Ok(status)
@@ -327,7 +328,7 @@ fn told_and_made<G: Game>(
     game: &G,
     board: &mut Position,
     m: Move,
-) -> Result<String, AllocError>
+) -> Result<Vec<u8>, AllocError>
     requires text { HasText m }
 {
     let told = told_move(alloc, board, m)?;

@@ -1,6 +1,0 @@
-use Rattle.fc_board_runs.proofs.FrontLemmas.{Counted}
-use Rattle.fc_board_runs.proofs.list_questions.count_entries.Given as goal
-
--- so many tokens were counted, and the others are left
-abbrev pub invariant-loop-token : goal.invariant-loop-token
-invariant-loop-token l = Counted l.text l._token-iterator.rest.now l.count

@@ -1,8 +1,0 @@
-use Rattle.std.proofs.Common.{◌≤◌, length}
-use Rattle.fc_board_runs.proofs.ListLemmas.{Made}
-use Rattle.fc_board_runs.proofs.list_questions.make_moves.Given as goal
-
--- the moves so far were made, which are no more than are wanted, and the others are left
-abbrev pub invariant-loop-token : goal.invariant-loop-token
-invariant-loop-token g l =
-    Made (g.G.Game.game l.game) l.position l.text l.token-iterator.rest.now l.moves.items l.board × (length l.moves.items ≤ l.most)

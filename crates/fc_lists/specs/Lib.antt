@@ -1,0 +1,9 @@
+pub mod Alone
+pub mod Laws
+pub mod ListText
+pub mod Plays
+pub mod Told
+pub mod Weaving
+pub mod Word
+pub mod Written
+pub mod inner

@@ -1,0 +1,4 @@
+pub mod FileLemmas
+pub mod NoteLemmas
+pub mod ReversedLemmas
+pub mod TypedNumbers

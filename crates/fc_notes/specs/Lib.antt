@@ -1,0 +1,11 @@
+pub mod FaultNote
+pub mod File
+pub mod FileFault
+pub mod FileLine
+pub mod Length
+pub mod LengthNote
+pub mod Listed
+pub mod Reversed
+pub mod ShortRow
+pub mod TokenNote
+pub mod inner
