@@ -1,46 +1,14 @@
-//! Makes the board and the certificate of a numbered deal, and measures how long checking them takes.
+//! Measures how long checking a certificate takes.
 
 ghost use Rattle.std.specs.Prelude.{◌≤◌, length};
 
 use crate::certificates::tell_peak;
-use fc_cert::{LONGEST_CERTIFICATE, write_answer};
+use fc_cert::LONGEST_CERTIFICATE;
 use fc_checker::{CheckFault, Claim, check};
-use fc_deal::deal;
-use fc_home::GREATEST_RULE;
-use fc_io::ToWriter;
 use fc_moves::FreeCell;
-use fc_position::Position;
-use fc_search::solve;
-use fc_text::{print_board, read_board};
-use std::alloc::Global;
+use fc_text::read_board;
 use std::time::Instant;
 use std::{fs, io};
-
-/// Searches a deal of FreeCell with four cells, and writes its board and its certificate into files.
-pub fn make_certificate(
-    rt: &HostRuntime,
-    number: u32,
-    rule: u8,
-    budget: u32,
-    board: &str,
-    path: &str,
-) -> io::Result<()> {
-    let (Some(position), Some(game)) = (deal(number), FreeCell::new(4)) else {
-        return println!(rt; "no deal");
-    };
-    if rule > GREATEST_RULE {
-        return println!(rt; "no rule");
-    }
-    fs::write(rt, board, print_board(&position, 4).as_str())?;
-    let Ok(answer) = solve(rt.alloc(), &game, rule, &position, budget) else {
-        return println!(rt; "no answer");
-    };
-    let mut bytes = Vec::new(rt.alloc());
-    if write_answer(&game, &answer, &mut ToWriter::new(&mut bytes)).is_err() {
-        return println!(rt; "no certificate");
-    }
-    fs::write(rt, path, bytes.as_slice())
-}
 
 /// Checks the certificate in a file so often; prints what it proves of the board in another, or its fault, the seconds of
 /// all checks, and the peak of resident memory.
