@@ -14,8 +14,8 @@ function that calls itself has no copies, nor has a trait's method unless its im
 go to further waves. An edit is refused where a goal of a function that it changes stays open; that the function calls one that
 isn't proved does not count. What a wave does not settle is tried alone.
 Edits of breaks/more/ are further ones of functions that have one. An edit that a line of breaks/judged.txt says was refused, over all
-that its judgement reads today, counts as refused; each other one is tried, and so is a sample of twenty of those (--sample N: of N),
-drawn by a seed that is printed and that no two commits share. Where one of the sample isn't refused, all edits of its crate are tried.
+that its judgement reads today, counts as refused; each other one is tried, and so is a sample of twenty of those (--sample N: of N), five a
+crate, drawn by a seed that is printed and that no two commits share. Where one of the sample isn't refused, all edits of its crate are tried.
 --lock writes the lines of what it finds refused, and draws no sample. --anew trusts no line. --alone tries each edit by itself.
 --after LOG tries those of the crates that the `rt ci` that wrote LOG says are proved, over the libraries that it built; else those that
 have changed are built first. The last line is 'N passed, M failed'.

@@ -22,6 +22,8 @@ from kit import rt, rtlib
 LOCK = "judged.txt"
 # Another number judges all edits anew: for a change of what counts as refused.
 RULES = 1
+# Of a crate one check tries several edits, which takes little more than one of them does.
+OF_A_CRATE = 5
 # Files of the proof of one function, which no other function's proof reads.
 OF_ONE_FUNCTION = {"Answers.antt", "Invariants.antt", "Proof.antt"}
 QUALIFIERS = {"pub", "crate", "super", "in", "(", ")", "const", "final", "unsafe", "extern"}
@@ -170,5 +172,12 @@ def seed_of(root):
 
 
 def drawn(judged, count, seed):
-    """So many of the judged edits, by the seed."""
-    return random.Random(seed).sample(sorted(judged), min(count, len(judged)))
+    """So many of the judged edits, by the seed: a crate is drawn by how many it has, and of each at most five, as long as others are left."""
+    left, chosen, draw = set(judged), [], random.Random(seed)
+    while left and len(chosen) < count:
+        fresh = sorted(left - {it for it in left if it[0] in {crate for crate, _ in chosen}}) or sorted(left)
+        crate = draw.choice(fresh)[0]
+        own = sorted(it for it in left if it[0] == crate)
+        chosen += draw.sample(own, min(OF_A_CRATE, len(own), count - len(chosen)))
+        left -= set(chosen)
+    return chosen
